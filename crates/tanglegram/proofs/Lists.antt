@@ -1,0 +1,191 @@
+-- Laws of Each, Pairwise and Distinct, of ranges, of places in a list, of membership and of permutations.
+use Prim.Native.Nat.{ℕ, zero, suc, pred, _+_, _≤_, _<_}
+use mathlib.Core.Path.{_≡_, refl, sym, ap, _∙_, subst}
+use mathlib.Core.Logic.{_≢_}
+use mathlib.Core.Bool.{Bool, true, false, cond}
+use mathlib.Core.List.{List, [], _∷_, _++_, List·Permᴰ, List·Permᴰ·nil, List·Permᴰ·cons, List·Permᴰ·swap, List·Permᴰ·trans}
+use mathlib.Core.List.{Permᴰ·refl, Permᴰ·symm, Permᴰ·append-left, Permᴰ·append-right}
+use mathlib.Core.List.{List·Memᴰ, List·Memᴰ·head, List·Memᴰ·tail, List·Memᴰ·not-nil}
+use native.Mathlib.Decide.{decLt}
+use native.Mathlib.Omega.{arith}
+use borrow.Author.Tests.{eq-eqb, ne-eqb, eqb-false}
+use lib.Dec.{eqb}
+use lib.ListN.{length, getD}
+use Rattle.tanglegram.specs.Lists.{Each, Pairwise, Distinct, place, range}
+
+-- ---- each entry, each two entries
+
+pub each-map : {P Q : ℕ → Type 0} (xs : List ℕ) → ((x : ℕ) → P x → Q x) → Each P xs → Each Q xs
+each-map [] f p = tt
+each-map (x ∷ xs) f p = (f x (p .0), each-map xs f (p .1))
+
+pub each-zip : {P Q R : ℕ → Type 0} (xs : List ℕ) → ((x : ℕ) → P x → Q x → R x) → Each P xs → Each Q xs → Each R xs
+each-zip [] f p q = tt
+each-zip (x ∷ xs) f p q = (f x (p .0) (q .0), each-zip xs f (p .1) (q .1))
+
+pub each-all : {P : ℕ → Type 0} (xs : List ℕ) → ((x : ℕ) → P x) → Each P xs
+each-all [] f = tt
+each-all (x ∷ xs) f = (f x, each-all xs f)
+
+pub each-append : (P : ℕ → Type 0) (xs ys : List ℕ) → Each P xs → Each P ys → Each P (xs ++ ys)
+each-append P [] ys p q = q
+each-append P (x ∷ xs) ys p q = (p .0, each-append P xs ys (p .1) q)
+
+pub each-split : (P : ℕ → Type 0) (xs ys : List ℕ) → Each P (xs ++ ys) → Each P xs × Each P ys
+each-split P [] ys p = (tt, p)
+each-split P (x ∷ xs) ys p = let r = each-split P xs ys (p .1) in ((p .0, r .0), r .1)
+
+pub pairwise-map : {R S : ℕ → ℕ → Type 0} (xs : List ℕ) → ((x y : ℕ) → R x y → S x y) → Pairwise R xs → Pairwise S xs
+pairwise-map [] f r = tt
+pairwise-map (x ∷ xs) f r = (each-map xs (f x) (r .0), pairwise-map xs f (r .1))
+
+-- of two parts: each by itself, and each entry of the first with each of the second
+pub pairwise-split : (R : ℕ → ℕ → Type 0) (xs ys : List ℕ) → Pairwise R (xs ++ ys) →
+    Pairwise R xs × Pairwise R ys × Each (λ x. Each (R x) ys) xs
+pairwise-split R [] ys d = (tt, d, tt)
+pairwise-split R (x ∷ xs) ys d =
+    let r = pairwise-split R xs ys (d .1) in
+    let s = each-split (R x) xs ys (d .0) in
+    ((s .0, r .0), r .1, (s .1, r .2))
+
+pub each-perm : (P : ℕ → Type 0) {xs ys : List ℕ} → List·Permᴰ xs ys → Each P xs → Each P ys
+each-perm P List·Permᴰ·nil p = tt
+each-perm P (List·Permᴰ·cons e d) p = (subst P e (p .0), each-perm P d (p .1))
+each-perm P (List·Permᴰ·swap e f) p = (subst P f (p .1 .0), (subst P e (p .0), p .1 .1))
+each-perm P (List·Permᴰ·trans d e) p = each-perm P e (each-perm P d p)
+
+pub distinct-perm : {xs ys : List ℕ} → List·Permᴰ xs ys → Distinct xs → Distinct ys
+distinct-perm List·Permᴰ·nil p = tt
+distinct-perm (List·Permᴰ·cons {a = a} {b = b} {l₂ = ys} e d) p =
+    (subst (λ x. Each (λ y. x ≢ y) ys) e (each-perm (λ y. a ≢ y) d (p .0)), distinct-perm d (p .1))
+distinct-perm (List·Permᴰ·swap {a = a} {b = b} {l = l} e f) p =
+    let apart : ℕ → Type 0 = λ x. Each (λ y. x ≢ y) l in
+    ((λ z. p .0 .0 (e ∙ sym z ∙ sym f), subst apart f (p .1 .0)), (subst apart e (p .0 .1), p .1 .1))
+distinct-perm (List·Permᴰ·trans d e) p = distinct-perm e (distinct-perm d p)
+
+pub length-perm : {xs ys : List ℕ} → List·Permᴰ xs ys → length xs ≡ length ys
+length-perm List·Permᴰ·nil = refl
+length-perm (List·Permᴰ·cons e d) = ap suc (length-perm d)
+length-perm (List·Permᴰ·swap e f) = refl
+length-perm (List·Permᴰ·trans d e) = length-perm d ∙ length-perm e
+
+pub perm-append : {a a′ b b′ : List ℕ} → List·Permᴰ a a′ → List·Permᴰ b b′ → List·Permᴰ (a ++ b) (a′ ++ b′)
+perm-append {a′ = a′} {b = b} d e = List·Permᴰ·trans (Permᴰ·append-right b d) (Permᴰ·append-left a′ e)
+
+pub append-nil : (xs : List ℕ) → xs ++ [] ≡ xs
+append-nil [] = refl
+append-nil (x ∷ xs) = ap (λ r. x ∷ r) (append-nil xs)
+
+-- ---- membership
+
+pub each-mem : (P : ℕ → Type 0) {a : ℕ} {xs : List ℕ} → Each P xs → List·Memᴰ a xs → P a
+each-mem P p (List·Memᴰ·head e) = subst P (sym e) (p .0)
+each-mem P p (List·Memᴰ·tail m) = each-mem P (p .1) m
+
+pub each-intro : (P : ℕ → Type 0) (xs : List ℕ) → ((x : ℕ) → List·Memᴰ x xs → P x) → Each P xs
+each-intro P [] f = tt
+each-intro P (x ∷ xs) f = (f x (List·Memᴰ·head refl), each-intro P xs (λ y m. f y (List·Memᴰ·tail m)))
+
+pub mem-perm : {a : ℕ} {xs ys : List ℕ} → List·Permᴰ xs ys → List·Memᴰ a xs → List·Memᴰ a ys
+mem-perm {ys = ys} d m =
+    let P : ℕ → Type 0 = λ x. List·Memᴰ x ys in
+    each-mem P (each-perm P (Permᴰ·symm d) (each-intro P ys (λ x k. k))) m
+
+pub mem-other : (a b : ℕ) (xs : List ℕ) → b ≢ a → List·Memᴰ a (b ∷ xs) → List·Memᴰ a xs
+mem-other a b xs z (List·Memᴰ·head e) = absurd (z (sym e))
+mem-other a b xs z (List·Memᴰ·tail k) = k
+
+-- an entry taken out of a list
+pub take-out : {a : ℕ} {xs : List ℕ} → List·Memᴰ a xs → (ys : List ℕ) × List·Permᴰ xs (a ∷ ys)
+take-out (List·Memᴰ·head {xs = xs} e) = (xs, List·Permᴰ·cons (sym e) (Permᴰ·refl xs))
+take-out (List·Memᴰ·tail {x = x} m) =
+    let r = take-out m in
+    (x ∷ r .0, List·Permᴰ·trans (List·Permᴰ·cons refl (r .1)) (List·Permᴰ·swap refl refl))
+
+-- as many entries as ys has, all different, all of ys: they are ys in some order
+pub pigeon : (xs ys : List ℕ) → Distinct xs → Each (λ x. List·Memᴰ x ys) xs → length xs ≡ length ys → List·Permᴰ xs ys
+pigeon [] [] d m e = List·Permᴰ·nil
+pigeon [] (y ∷ ys) d m e = absurd (omega arith)
+pigeon (x ∷ xs) ys d m e =
+    let r = take-out (m .0) in
+    let rest = each-zip xs (λ y z k. mem-other y x (r .0) z (mem-perm (r .1) k)) (d .0) (m .1) in
+    List·Permᴰ·trans
+    (List·Permᴰ·cons refl (pigeon xs (r .0) (d .1) rest (omega (arith, length-perm (r .1)))))
+    (Permᴰ·symm (r .1))
+
+-- ---- ranges
+
+pub range-each : (P : ℕ → Type 0) (k n : ℕ) → ((i : ℕ) → k ≤ i → i < k + n → P i) → Each P (range k n)
+unfolding range
+range-each P k zero f = tt
+range-each P k (suc n) f = (f k (omega arith) (omega arith), range-each P (suc k) n (λ i p q. f i (omega arith) (omega arith)))
+
+pub range-distinct : (k n : ℕ) → Distinct (range k n)
+unfolding range
+range-distinct k zero = tt
+range-distinct k (suc n) = (range-each (λ y. k ≢ y) (suc k) n (λ i p q. omega arith), range-distinct (suc k) n)
+
+pub length-range : (k n : ℕ) → length (range k n) ≡ n
+unfolding range
+length-range k zero = refl
+length-range k (suc n) = ap suc (length-range (suc k) n)
+
+pub mem-range : (a k n : ℕ) → k ≤ a → a < k + n → List·Memᴰ a (range k n)
+unfolding range
+mem-range a k zero p q = absurd (omega arith)
+mem-range a k (suc n) p q = go (decLt k a) (λ h. mem-range a (suc k) n h (omega arith))
+  where
+    go : Dec (k < a) → (k < a → List·Memᴰ a (range (suc k) n)) → List·Memᴰ a (k ∷ range (suc k) n)
+    go (yes h) f = List·Memᴰ·tail (f h)
+    go (no h) f = List·Memᴰ·head {x = k} (omega arith)
+
+-- the last of a range may stand first
+pub range-snoc : (k n : ℕ) → List·Permᴰ (range k (suc n)) ((k + n) ∷ range k n)
+unfolding range
+range-snoc k zero = List·Permᴰ·cons {a = k} {b = k + 0} (omega arith) List·Permᴰ·nil
+range-snoc k (suc n) =
+    List·Permᴰ·trans
+    (List·Permᴰ·cons refl (range-snoc (suc k) n))
+    (List·Permᴰ·swap {b = suc k + n} {a′ = k + suc n} refl (omega arith))
+
+-- n different numbers from 1 to n are all of them
+pub one-to-one : (n : ℕ) (ps : List ℕ) → length ps ≡ n → Distinct ps → Each (λ c. (1 ≤ c) × (c ≤ n)) ps → List·Permᴰ ps (range 1 n)
+one-to-one n ps e d b =
+    pigeon ps (range 1 n) d (each-map ps (λ c p. mem-range c 1 n (p .0) (omega (arith, p .1))) b) (e ∙ sym (length-range 1 n))
+
+-- ---- places
+
+pub place-head : (x : ℕ) (xs : List ℕ) → place (x ∷ xs) x ≡ 0
+unfolding place
+place-head x xs = rw (eq-eqb x x refl) refl
+
+pub place-tail : (x : ℕ) (xs : List ℕ) (y : ℕ) → x ≢ y → place (x ∷ xs) y ≡ suc (place xs y)
+unfolding place
+place-tail x xs y h = rw (ne-eqb x y h) refl
+
+pub place-below : (xs : List ℕ) (a : ℕ) → List·Memᴰ a xs → place xs a < length xs
+unfolding place
+place-below [] a m = absurd (List·Memᴰ·not-nil m)
+place-below (x ∷ xs) a m = go (eqb x a) refl (λ k. place-below xs a k)
+  where
+    go : (b : Bool) → eqb x a ≡ b → (List·Memᴰ a xs → place xs a < length xs) → cond b 0 (suc (place xs a)) < suc (length xs)
+    go true e f = omega arith
+    go false e f = omega (arith, f (mem-other a x xs (eqb-false x a e) m))
+
+-- a list without repeats stands in the order of its places
+pub place-rising : (xs : List ℕ) → Distinct xs → Pairwise (λ x y. place xs x < place xs y) xs
+place-rising [] d = tt
+place-rising (x ∷ xs) d =
+    (each-map xs (λ y h. omega (arith, place-head x xs, place-tail x xs y h)) (d .0), lift xs (d .0) (place-rising xs (d .1)))
+  where
+    lift : (ys : List ℕ) → Each (λ y. x ≢ y) ys → Pairwise (λ y z. place xs y < place xs z) ys →
+        Pairwise (λ y z. place (x ∷ xs) y < place (x ∷ xs) z) ys
+    lift [] d r = tt
+    lift (y ∷ ys) d r =
+        (each-zip ys (λ z n h. omega (arith, place-tail x xs y (d .0), place-tail x xs z n)) (d .1) (r .0), lift ys (d .1) (r .1))
+
+-- the entry at an entry's place is the entry
+pub at-place : (xs : List ℕ) → Distinct xs → Each (λ c. getD xs (place xs c) 0 ≡ c) xs
+at-place [] d = tt
+at-place (x ∷ xs) d =
+    (rw (place-head x xs) refl, each-zip xs (λ y h e. rw (place-tail x xs y h) e) (d .0) (at-place xs (d .1)))
