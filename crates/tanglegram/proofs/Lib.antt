@@ -1,1 +1,9 @@
 pub mod Lists
+pub mod Tree
+pub mod Write
+pub mod Order
+pub mod Compatible
+pub mod Sums
+pub mod Crossings
+pub mod Freeing
+pub mod Run

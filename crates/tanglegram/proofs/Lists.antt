@@ -1,16 +1,17 @@
 -- Laws of Each, Pairwise and Distinct, of ranges, of places in a list, of membership and of permutations.
-use Prim.Native.Nat.{ℕ, zero, suc, pred, _+_, _≤_, _<_}
+use Prim.Native.Nat.{ℕ, zero, suc, _+_, _≤_, _<_}
 use mathlib.Core.Path.{_≡_, refl, sym, ap, _∙_, subst}
 use mathlib.Core.Logic.{_≢_}
 use mathlib.Core.Bool.{Bool, true, false, cond}
 use mathlib.Core.List.{List, [], _∷_, _++_, List·Permᴰ, List·Permᴰ·nil, List·Permᴰ·cons, List·Permᴰ·swap, List·Permᴰ·trans}
 use mathlib.Core.List.{Permᴰ·refl, Permᴰ·symm, Permᴰ·append-left, Permᴰ·append-right}
-use mathlib.Core.List.{List·Memᴰ, List·Memᴰ·head, List·Memᴰ·tail, List·Memᴰ·not-nil}
+use mathlib.Core.List.{List·Memᴰ, List·Memᴰ·head, List·Memᴰ·tail, List·Memᴰ·not-nil, List·Memᴰ·eq-of-singleton, Memᴰ·append-left, Memᴰ·append-right}
 use native.Mathlib.Decide.{decLt}
 use native.Mathlib.Omega.{arith}
-use borrow.Author.Tests.{eq-eqb, ne-eqb, eqb-false}
+use borrow.Author.Tests.{eq-eqb, ne-eqb}
 use lib.Dec.{eqb}
-use lib.ListN.{length, getD}
+use lib.ListN.{length, getD, take, drop, length-take, take-append-drop}
+use lib.Seq.{take-append-seam, drop-append-seam, take-at, drop-at, take-nil}
 use Rattle.tanglegram.specs.Lists.{Each, Pairwise, Distinct, place, range}
 
 -- ---- each entry, each two entries
@@ -38,6 +39,10 @@ each-split P (x ∷ xs) ys p = let r = each-split P xs ys (p .1) in ((p .0, r .0
 pub pairwise-map : {R S : ℕ → ℕ → Type 0} (xs : List ℕ) → ((x y : ℕ) → R x y → S x y) → Pairwise R xs → Pairwise S xs
 pairwise-map [] f r = tt
 pairwise-map (x ∷ xs) f r = (each-map xs (f x) (r .0), pairwise-map xs f (r .1))
+
+pub each-pairwise : {P : ℕ → Type 0} {R : ℕ → ℕ → Type 0} (xs : List ℕ) → ((x y : ℕ) → P x → P y → R x y) → Each P xs → Pairwise R xs
+each-pairwise [] f p = tt
+each-pairwise (x ∷ xs) f p = (each-map xs (λ y q. f x y (p .0) q) (p .1), each-pairwise xs f (p .1))
 
 -- of two parts: each by itself, and each entry of the first with each of the second
 pub pairwise-split : (R : ℕ → ℕ → Type 0) (xs ys : List ℕ) → Pairwise R (xs ++ ys) →
@@ -76,6 +81,13 @@ pub append-nil : (xs : List ℕ) → xs ++ [] ≡ xs
 append-nil [] = refl
 append-nil (x ∷ xs) = ap (λ r. x ∷ r) (append-nil xs)
 
+-- two lists put together are equal only part by part, if the first parts have the same length
+pub append-inj : (xs ys xs′ ys′ : List ℕ) → xs ++ ys ≡ xs′ ++ ys′ → length xs ≡ length xs′ → (xs ≡ xs′) × (ys ≡ ys′)
+append-inj xs ys xs′ ys′ e n = (
+  sym (take-append-seam xs ys) ∙ ap (take (length xs)) e ∙ take-at xs′ ys′ (length xs) (sym n),
+  sym (drop-append-seam xs ys) ∙ ap (drop (length xs)) e ∙ drop-at xs′ ys′ (length xs) (sym n),
+)
+
 -- ---- membership
 
 pub each-mem : (P : ℕ → Type 0) {a : ℕ} {xs : List ℕ} → Each P xs → List·Memᴰ a xs → P a
@@ -95,6 +107,16 @@ pub mem-other : (a b : ℕ) (xs : List ℕ) → b ≢ a → List·Memᴰ a (b �
 mem-other a b xs z (List·Memᴰ·head e) = absurd (z (sym e))
 mem-other a b xs z (List·Memᴰ·tail k) = k
 
+-- the entry at a place within a list is one of its entries
+pub mem-at : (xs : List ℕ) (i : ℕ) → i < length xs → List·Memᴰ (getD xs i 0) xs
+mem-at [] i h = absurd (omega arith)
+mem-at (x ∷ xs) zero h = List·Memᴰ·head refl
+mem-at (x ∷ xs) (suc i) h = List·Memᴰ·tail (mem-at xs i (omega arith))
+
+-- no number is an entry of both of two lists that are apart
+pub apart-mem : (xs ys : List ℕ) → Each (λ x. Each (λ y. x ≢ y) ys) xs → (a : ℕ) → List·Memᴰ a xs → List·Memᴰ a ys → ⊥
+apart-mem xs ys d a m k = each-mem (λ y. a ≢ y) (each-mem (λ x. Each (λ y. x ≢ y) ys) d m) k refl
+
 -- an entry taken out of a list
 pub take-out : {a : ℕ} {xs : List ℕ} → List·Memᴰ a xs → (ys : List ℕ) × List·Permᴰ xs (a ∷ ys)
 take-out (List·Memᴰ·head {xs = xs} e) = (xs, List·Permᴰ·cons (sym e) (Permᴰ·refl xs))
@@ -112,6 +134,12 @@ pigeon (x ∷ xs) ys d m e =
     List·Permᴰ·trans
     (List·Permᴰ·cons refl (pigeon xs (r .0) (d .1) rest (omega (arith, length-perm (r .1)))))
     (Permᴰ·symm (r .1))
+
+-- a permutation of a single entry is that entry
+pub perm-single : (xs : List ℕ) (a : ℕ) → List·Permᴰ xs (a ∷ []) → xs ≡ a ∷ []
+perm-single [] a d = absurd (omega (arith, length-perm d))
+perm-single (x ∷ []) a d = ap (λ y. y ∷ []) (List·Memᴰ·eq-of-singleton (mem-perm d (List·Memᴰ·head refl)))
+perm-single (x ∷ y ∷ xs) a d = absurd (omega (arith, length-perm d))
 
 -- ---- ranges
 
@@ -163,15 +191,6 @@ pub place-tail : (x : ℕ) (xs : List ℕ) (y : ℕ) → x ≢ y → place (x �
 unfolding place
 place-tail x xs y h = rw (ne-eqb x y h) refl
 
-pub place-below : (xs : List ℕ) (a : ℕ) → List·Memᴰ a xs → place xs a < length xs
-unfolding place
-place-below [] a m = absurd (List·Memᴰ·not-nil m)
-place-below (x ∷ xs) a m = go (eqb x a) refl (λ k. place-below xs a k)
-  where
-    go : (b : Bool) → eqb x a ≡ b → (List·Memᴰ a xs → place xs a < length xs) → cond b 0 (suc (place xs a)) < suc (length xs)
-    go true e f = omega arith
-    go false e f = omega (arith, f (mem-other a x xs (eqb-false x a e) m))
-
 -- a list without repeats stands in the order of its places
 pub place-rising : (xs : List ℕ) → Distinct xs → Pairwise (λ x y. place xs x < place xs y) xs
 place-rising [] d = tt
@@ -189,3 +208,40 @@ pub at-place : (xs : List ℕ) → Distinct xs → Each (λ c. getD xs (place xs
 at-place [] d = tt
 at-place (x ∷ xs) d =
     (rw (place-head x xs) refl, each-zip xs (λ y h e. rw (place-tail x xs y h) e) (d .0) (at-place xs (d .1)))
+
+-- in a list without repeats the entry at place i has the place i
+pub place-at : (xs : List ℕ) (i : ℕ) → Distinct xs → i < length xs → place xs (getD xs i 0) ≡ i
+place-at [] i d h = absurd (omega arith)
+place-at (x ∷ xs) zero d h = place-head x xs
+place-at (x ∷ xs) (suc i) d h =
+    place-tail x xs (getD xs i 0) (each-mem (λ y. x ≢ y) (d .0) (mem-at xs i (omega arith)))
+    ∙ ap suc (place-at xs i (d .1) (omega arith))
+
+-- an entry of a list has its place there, whatever follows the list
+place-early : {a : ℕ} {xs : List ℕ} (ys : List ℕ) → List·Memᴰ a xs → place (xs ++ ys) a < length xs
+unfolding place
+place-early {a} ys (List·Memᴰ·head {x = x} e) = rw (eq-eqb x a (sym e)) (omega arith)
+place-early {a} ys (List·Memᴰ·tail {x = x} {xs = xs} m) = go (eqb x a) (place-early ys m)
+  where
+    go : (b : Bool) → place (xs ++ ys) a < length xs → cond b 0 (suc (place (xs ++ ys) a)) < suc (length xs)
+    go true h = omega arith
+    go false h = omega arith
+
+pub place-below : (xs : List ℕ) (a : ℕ) → List·Memᴰ a xs → place xs a < length xs
+place-below xs a m = rw append-nil at (place-early [] m)
+
+-- each of the next n entries from place k on is an entry
+mem-part : {a : ℕ} (xs : List ℕ) (k n : ℕ) → List·Memᴰ a (take n (drop k xs)) → List·Memᴰ a xs
+mem-part xs k n m =
+    let later = rw take-append-drop at (Memᴰ·append-left (drop n (drop k xs)) m) in
+    rw take-append-drop at (Memᴰ·append-right (take k xs) later)
+
+-- the next n entries from place k on have the places k to k + n - 1
+pub place-part : (xs : List ℕ) (k n a : ℕ) → Distinct xs → List·Memᴰ a (take n (drop k xs)) → (k ≤ place xs a) × (place xs a < k + n)
+place-part xs zero n a d m =
+    let h = rw take-append-drop at (place-early (drop n xs) m) in
+    omega (arith, length-take n xs)
+place-part [] (suc k) n a d m = absurd (List·Memᴰ·not-nil (rw take-nil at m))
+place-part (x ∷ xs) (suc k) n a d m =
+    let r = place-part xs k n a (d .1) m in
+    omega (arith, place-tail x xs a (each-mem (λ y. x ≢ y) (d .0) (mem-part xs k n m)))

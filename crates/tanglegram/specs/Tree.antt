@@ -1,7 +1,7 @@
 -- Trees: a leaf, or the branching that a row makes of its upper and its lower child; the rows of a tree over n leaves, the tree
 -- rule, and the tree that such rows make.
 use Prim.Native.Nat.{ℕ, zero, suc, pred, _+_, _-_, _≤_, _<_}
-use mathlib.Core.Bool.{Bool, cond}
+use mathlib.Core.Bool.{cond}
 use mathlib.Core.List.{List, [], _∷_, _++_}
 use mathlib.Core.Logic.{_≢_}
 use lib.Dec.{leb}
@@ -41,17 +41,21 @@ module _ (up low : ℕ → ℕ) where
   used zero = []
   used (suc m) = up (suc m) ∷ low (suc m) ∷ used m
 
-  -- Object k of a tree over n leaves; f bounds how deep it is looked into, and k is enough.
-  unfoldable pub object : ℕ → ℕ → ℕ → Tree
-  object n zero k = leaf k
-  object n (suc f) k =
+  -- Object k of a tree over n leaves, looked into f rows deep.
+  unfoldable pub deep : ℕ → ℕ → ℕ → Tree
+  deep n zero k = leaf k
+  deep n (suc f) k =
       let i = k - n in
-      let branching = fork i (object n f (up i)) (object n f (low i)) in
+      let branching = fork i (deep n f (up i)) (deep n f (low i)) in
       cond (leb k n) (leaf k) branching
 
-  -- The tree of the last object, n + (n - 1).
-  unfoldable pub tree : ℕ → Tree
-  tree n = object n (n + pred n) (n + pred n)
+  -- Object k: k rows are deep enough, since a child's number is below its parent's. The tree is that of the last object.
+  unfoldable pub object : ℕ → ℕ → Tree
+  unfolding deep
+  object n k = deep n k k
+
+  abbrev pub tree : ℕ → Tree
+  tree n = object n (n + pred n)
 
 -- Row i keeps the rule: both entries are at least 1 and below n + i, they differ, and no earlier row uses either.
 pub record Row (n : ℕ) (up low : ℕ → ℕ) (i : ℕ) : Type 0 where

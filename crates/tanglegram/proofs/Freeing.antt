@@ -1,0 +1,167 @@
+-- Freeing gives the fewest crossings that any choice of the side's turnings gives, turns a row exactly if that makes its own
+-- crossings strictly fewer, and changes no byte where it gains nothing. For any weight.
+use Prim.Native.Nat.{ℕ, zero, suc, _+_, _≤_, _<_}
+use mathlib.Core.Path.{_≡_, refl, sym, ap, _∙_}
+use mathlib.Core.Logic.{_↔_, _⊎_, inl, inr, ⊎-elim}
+use mathlib.Core.Bool.{Bool, true, false, cond, not, true≢false, false≢true}
+use mathlib.Core.List.{List, List·Permᴰ, Permᴰ·symm}
+use native.Mathlib.Omega.{arith}
+use borrow.Author.Tests.{ltb-true, ltb-false}
+use lib.Dec.{ltb}
+use lib.ListN.{length}
+use lib.Seq.{ext-getD}
+use Rattle.tanglegram.specs.Lists.{Each, range}
+use Rattle.tanglegram.specs.Tree.{Tree, leaf, fork, rows, EachRow, total}
+use Rattle.tanglegram.specs.Order.{turned, mayChange, flip, byte, Choice}
+use Rattle.tanglegram.specs.Crossings.{between, own, ownAt, cost}
+use Rattle.tanglegram.specs.Freeing.{choose, chooseAt, freed}
+use Rattle.tanglegram.proofs.Lists.{each-append, each-mem, each-perm, mem-range, distinct-perm, range-distinct, range-each}
+use Rattle.tanglegram.proofs.Tree.{eachRow-map}
+use Rattle.tanglegram.proofs.Write.{length-write, write-written, write-same, written-cong, written-rows}
+
+-- ---- one row: its own crossings a as given and b turned over, its byte x
+
+-- what is asked of the two names by which a byte is read
+turned-flip : (x : ℕ) → turned (flip x) ≡ not (turned x)
+turned-flip zero = refl
+turned-flip (suc x) = refl
+
+-- its own crossings at a byte and turned over are those of both ways
+pub own-flip : (a b x : ℕ) → own a b x + own a b (flip x) ≡ a + b
+own-flip a b x = rw (turned-flip x) (go (turned x))
+  where
+    go : (t : Bool) → cond t b a + cond (not t) b a ≡ a + b
+    go true = omega arith
+    go false = omega arith
+
+-- fewer than both ways is fewer than any
+own-either : (a b c x y : ℕ) → c ≤ own a b x → c ≤ own a b (flip x) → c ≤ own a b y
+own-either a b c x y h k = go (turned x) (turned y) h (rw (turned-flip x) at k)
+  where
+    go : (s t : Bool) → c ≤ cond s b a → c ≤ cond (not s) b a → c ≤ cond t b a
+    go true true h k = h
+    go true false h k = k
+    go false true h k = k
+    go false false h k = h
+
+module _ (a b x : ℕ) where
+  -- turned, which makes its own crossings strictly fewer, or kept
+  Turned : Type 0
+  Turned = (mayChange x ≡ true) × (own a b (flip x) < own a b x) × (choose a b x ≡ flip x)
+
+  Kept : Type 0
+  Kept = (mayChange x ≡ true → own a b x ≤ own a b (flip x)) × (choose a b x ≡ x)
+
+  choose-either : Turned ⊎ Kept
+  unfolding Turned Kept choose
+  choose-either = go (ltb (own a b (flip x)) (own a b x)) refl
+    where
+      go : (t : Bool) → ltb (own a b (flip x)) (own a b x) ≡ t →
+          ((mayChange x ≡ true) × (own a b (flip x) < own a b x) × (cond t (flip x) x ≡ flip x)) ⊎
+          ((mayChange x ≡ true → own a b x ≤ own a b (flip x)) × (cond t (flip x) x ≡ x))
+      go true e = inl (refl, ltb-true _ _ e, refl)
+      go false e = inr (λ m. ltb-false _ _ e, refl)
+
+  -- turned exactly if it may change and that makes its own crossings strictly fewer
+  pub choose-exactly : (choose a b x ≡ flip x) ↔ ((mayChange x ≡ true) × (own a b (flip x) < own a b x))
+  unfolding Turned Kept
+  choose-exactly = (
+    λ e. ⊎-elim (λ h. (h .0, h .1)) (λ h. absurd (not-self (turned x) (sym (turned-flip x) ∙ ap turned (sym e ∙ h .1)))) choose-either,
+    λ f. ⊎-elim (λ h. h .2) (λ h. absurd (omega (arith, f .1, h .0 (f .0)))) choose-either,
+  )
+    where
+      not-self : (t : Bool) → not t ≡ t → ⊥
+      not-self true e = false≢true e
+      not-self false e = true≢false e
+
+  -- no byte that may stand there has fewer
+  choose-least : (y : ℕ) → (mayChange x ≡ false → turned y ≡ turned x) → own a b (choose a b x) ≤ own a b y
+  unfolding Turned Kept
+  choose-least y g =
+      ⊎-elim
+      (λ h. rw (h .2) (own-either a b (own a b (flip x)) x y (omega (arith, h .1)) (omega arith)))
+      (λ h. rw (h .1) (own-either a b (own a b x) x y (omega arith) (h .0 refl)))
+      choose-either
+
+  -- a byte that has no fewer is the same
+  choose-same : own a b x ≤ own a b (choose a b x) → choose a b x ≡ x
+  unfolding Turned Kept
+  choose-same le = ⊎-elim (λ h. absurd (omega (arith, h .1, rw (h .2) at le))) (λ h. h .1) choose-either
+
+-- ---- a tree: a layout that has the choice at each row
+
+module _ (w : ℕ → ℕ → ℕ) (old new : List ℕ) where
+  abbrev Chosen : Tree → Type 0
+  Chosen t = EachRow (λ i u l. byte new i ≡ chooseAt w old i u l) t
+
+  chosen-least : (t : Tree) → Chosen t → (any : List ℕ) → Choice old any → cost w new t ≤ cost w any t
+  unfolding cost total
+  chosen-least (leaf a) c any h = omega arith
+  chosen-least (fork i u l) c any h =
+      let here = choose-least (between w u l) (between w l u) (byte old i) (byte any i) (h i) in
+      rw (c .0) (omega (arith, here, chosen-least u (c .1) any h, chosen-least l (c .2) any h))
+
+  chosen-same : (t : Tree) → Chosen t → cost w old t ≤ cost w new t → Each (λ i. byte new i ≡ byte old i) (rows t)
+  unfolding cost total rows
+  chosen-same (leaf a) c h = tt
+  chosen-same (fork i u l) c h =
+      let self : Choice old old = λ j e. refl in
+      let here = choose-least (between w u l) (between w l u) (byte old i) (byte old i) (λ e. refl) in
+      let p = chosen-least u (c .1) old self in
+      let q = chosen-least l (c .2) old self in
+      let h′ = rw (c .0) at h in (
+        c .0 ∙ choose-same (between w u l) (between w l u) (byte old i) (omega arith),
+        each-append (λ j. byte new j ≡ byte old j) (rows u) (rows l)
+            (chosen-same u (c .1) (omega arith))
+            (chosen-same l (c .2) (omega arith)),
+      )
+
+-- every layout is a choice, as long as every byte may change
+pub every-layout : (lay any : List ℕ) → Choice lay any
+every-layout lay any i h = absurd (true≢false h)
+
+-- ---- the freed layout, of a tree whose rows are 1 to m and a layout of m bytes
+
+pub length-freed : (w : ℕ → ℕ → ℕ) (t : Tree) (lay : List ℕ) → length (freed w t lay) ≡ length lay
+unfolding freed
+length-freed w t lay = length-write (chooseAt w lay) t lay
+
+module _ (w : ℕ → ℕ → ℕ) (t : Tree) (m : ℕ) (r : List·Permᴰ (rows t) (range 1 m)) (lay : List ℕ) (e : length lay ≡ m) where
+  pub freed-chosen : EachRow (λ i u l. byte (freed w t lay) i ≡ chooseAt w lay i u l) t
+  unfolding freed
+  freed-chosen =
+      let Inside : ℕ → Type 0 = λ i. (1 ≤ i) × (i ≤ length lay) in
+      write-written (chooseAt w lay) t lay (distinct-perm (Permᴰ·symm r) (range-distinct 1 m))
+      (each-perm Inside (Permᴰ·symm r) (range-each Inside 1 m (λ i p q. (p, omega arith))))
+
+  -- a row is turned exactly if it may change and that makes its own crossings strictly fewer
+  pub freed-exactly : EachRow (λ i u l. (byte (freed w t lay) i ≡ flip (byte lay i)) ↔
+      ((mayChange (byte lay i) ≡ true) × (own (between w u l) (between w l u) (flip (byte lay i)) < ownAt w lay i u l))) t
+  freed-exactly = eachRow-map t (λ i u l c. rw c (choose-exactly (between w u l) (between w l u) (byte lay i))) freed-chosen
+
+  -- and else keeps its byte
+  pub freed-either : EachRow (λ i u l. (byte (freed w t lay) i ≡ flip (byte lay i)) ⊎ (byte (freed w t lay) i ≡ byte lay i)) t
+  unfolding Turned Kept
+  freed-either =
+      eachRow-map t
+      (λ i u l c. ⊎-elim (λ h. inl (c ∙ h .2)) (λ h. inr (c ∙ h .1)) (choose-either (between w u l) (between w l u) (byte lay i)))
+      freed-chosen
+
+  -- no choice has fewer crossings
+  pub freed-least : (any : List ℕ) → Choice lay any → cost w (freed w t lay) t ≤ cost w any t
+  freed-least = chosen-least w lay (freed w t lay) t freed-chosen
+
+  -- where they are no fewer than before, no byte changed
+  pub freed-same : cost w lay t ≤ cost w (freed w t lay) t → freed w t lay ≡ lay
+  unfolding freed
+  freed-same h =
+      write-same (chooseAt w lay) t lay
+      (written-cong (chooseAt w lay) t (freed w t lay) lay (chosen-same w lay (freed w t lay) t freed-chosen h) freed-chosen)
+
+  -- a layout of m bytes that has the choice at each row is the freed one
+  pub freed-unique : (new : List ℕ) → length new ≡ m → EachRow (λ i u l. byte new i ≡ chooseAt w lay i u l) t → new ≡ freed w t lay
+  freed-unique new f c =
+      let Same : ℕ → Type 0 = λ j. byte new j ≡ byte (freed w t lay) j in
+      let same = each-perm Same r (written-rows (chooseAt w lay) t new (freed w t lay) c freed-chosen) in
+      ext-getD 0 new (freed w t lay) (f ∙ sym e ∙ sym (length-freed w t lay))
+      (λ i h. each-mem Same same (mem-range (suc i) 1 m (omega arith) (omega arith)))
