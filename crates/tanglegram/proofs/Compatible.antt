@@ -10,13 +10,15 @@ use native.Mathlib.Decide.{decLt}
 use native.Mathlib.Omega.{arith}
 use borrow.Author.Tests.{ltb-true, ltb-false}
 use lib.Dec.{ltb}
-use lib.ListN.{length, getD, take, drop, length-append, length-take, length-drop}
+use lib.ListN.{length, getD, take, drop, length-append, length-take, length-drop, replicate, length-replicate}
 use lib.Seq.{take-add, drop-drop, take-all, getD-take, getD-drop}
 use Rattle.tanglegram.specs.Lists.{Each, Distinct, place, bit}
-use Rattle.tanglegram.specs.Tree.{Tree, leaf, fork, leaves, rows, EachObject, EachRow}
+use Rattle.tanglegram.specs.Tree.{Tree, leaf, fork, leaves, rows, EachObject, EachRow, tree, Rule}
 use Rattle.tanglegram.specs.Order.{turned, byte, order, Together, Compatible, uppermost, reading}
 use Rattle.tanglegram.proofs.Lists.{pairwise-split, mem-perm, length-perm, distinct-perm}
 use Rattle.tanglegram.proofs.Lists.{mem-at, apart-mem, perm-single, place-at, place-part}
+use Rattle.tanglegram.proofs.Lists.{all-distinct, each-perm, range-each}
+use Rattle.tanglegram.proofs.Tree.{leaves-once, rows-once}
 use Rattle.tanglegram.proofs.Write.{write-written}
 use Rattle.tanglegram.proofs.Order.{order-compatible, uppermost-leaf}
 
@@ -135,3 +137,16 @@ compatible-exactly t xs lay d r b = (
   λ c. (reading xs t lay, compatible-order t xs lay d r b c),
   λ s. subst (Compatible t) (s .1) (order-compatible (s .0) t),
 )
+
+-- for a tree by the tree rule over n leaves: its compatible orders are exactly those that layouts give
+pub rule-compatible : (n : ℕ) (up low : ℕ → ℕ) → Rule n up low → 1 ≤ n → (xs : List ℕ) →
+    Compatible (tree up low n) xs ↔ ((some : List ℕ) × (order some (tree up low n) ≡ xs))
+rule-compatible n up low rule pos xs =
+    let t = tree up low n in
+    let zeros : List ℕ = replicate (pred n) 0 in
+    let Inside : ℕ → Type 0 = λ i. (1 ≤ i) × (i ≤ length zeros) in
+    let ls = leaves-once n up low rule pos in
+    let rs = rows-once n up low rule pos in
+    compatible-exactly t xs zeros (all-distinct n (leaves t) ls) (all-distinct (pred n) (rows t) rs)
+    (each-perm Inside (Permᴰ·symm rs)
+    (range-each Inside 1 (pred n) (λ i p q. (p, omega (arith, length-replicate {A = ℕ} (pred n) 0)))))

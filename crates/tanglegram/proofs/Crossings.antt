@@ -1,21 +1,23 @@
 -- The count between two orders is what either side sees of it, and the sum of either tree's rows' own crossings; a row's own
 -- crossings are the crossing pairs with one leaf under each child; the count is at most n(n-1)/2.
-use Prim.Native.Nat.{ℕ, suc, _+_, _-_, _*_, _/_, _≤_, _<_}
+use Prim.Native.Nat.{ℕ, suc, pred, _+_, _-_, _*_, _/_, _≤_, _<_}
 use mathlib.Core.Path.{_≡_, refl, sym, ap, ap₂, _∙_}
+use mathlib.Core.Logic.{_≢_}
 use mathlib.Core.Bool.{Bool, true, false, cond, _&&_, _||_}
 use mathlib.Core.List.{List, [], _∷_, _++_, map, List·Permᴰ, List·Permᴰ·trans, Permᴰ·map, Permᴰ·symm}
 use native.Mathlib.Nat.{le-div-iff-mul-le, mul-le-mul, mul-sub, mul-one}
 use native.Mathlib.Omega.{arith}
 use borrow.Author.Tests.{lt-ltb, le-ltb}
 use lib.Dec.{ltb}
-use lib.ListN.{length}
+use lib.ListN.{length, getD}
 use Rattle.tanglegram.specs.Lists.{Distinct, Each, Pairwise, place, range, bit}
 use Rattle.tanglegram.specs.Tree.{Tree, leaf, fork, leaves, EachRow, total}
 use Rattle.tanglegram.specs.Order.{order, byte, turned}
 use Rattle.tanglegram.specs.Crossings.{crosses, over, pairs, to, back, end, leftCross, rightCross, count}
 use Rattle.tanglegram.specs.Crossings.{inverted, seenLeft, seenRight, between, ownAt, cost}
 use Rattle.tanglegram.proofs.Lists.{each-map, each-all, each-perm, each-pairwise, pairwise-map, pairwise-split}
-use Rattle.tanglegram.proofs.Lists.{distinct-perm, length-perm, range-distinct, length-range, place-head, place-tail, place-rising, at-place}
+use Rattle.tanglegram.proofs.Lists.{length-range, place-head, place-tail, place-rising, at-place}
+use Rattle.tanglegram.proofs.Lists.{all-distinct, all-length, undone-apart, each-intro, each-mem, mem-at, mem-perm, mem-range, place-at, place-below, range-each}
 use Rattle.tanglegram.proofs.Tree.{eachRow-zip, each-under}
 use Rattle.tanglegram.proofs.Order.{order-perm}
 use Rattle.tanglegram.proofs.Sums.{pairs-append, pairs-map, pairs-perm, pairs-ext, pairs-most, across-perm, across-ext, across-swap}
@@ -122,7 +124,7 @@ pairs-cost w lay (fork i u l) = go (turned (byte lay i)) (pairs-cost w lay u) (p
 
 -- the leaves of an order, in the order of their places
 rising : (n : ℕ) (σ : List ℕ) → List·Permᴰ σ (range 1 n) → Pairwise (λ x y. place σ x < place σ y) σ
-rising n σ d = place-rising σ (distinct-perm (Permᴰ·symm d) (range-distinct 1 n))
+rising n σ d = place-rising σ (all-distinct n σ d)
 
 pub count-left : (n : ℕ) (ps σ τ : List ℕ) → List·Permᴰ σ (range 1 n) → count n ps σ τ ≡ pairs (seenLeft ps τ) σ
 unfolding count
@@ -152,15 +154,15 @@ map-place k (x ∷ xs) d =
 
 module _ (n : ℕ) (ps : List ℕ) (c : List·Permᴰ ps (range 1 n)) where
   links-distinct : Distinct ps
-  links-distinct = distinct-perm (Permᴰ·symm c) (range-distinct 1 n)
+  links-distinct = all-distinct n ps c
 
   -- the left leaves of the right leaves are the left leaves
   back-onto : {τ : List ℕ} → List·Permᴰ τ (range 1 n) → List·Permᴰ (map (back ps) τ) (range 1 n)
   back-onto d =
       let onto : map (back ps) ps ≡ range 1 n =
-          map-ext (back ps) (λ x. 1 + place ps x) ps (each-all {P = λ x. back ps x ≡ 1 + place ps x} ps (λ x. omega arith))
-          ∙ map-place 1 ps links-distinct
-          ∙ ap (range 1) (length-perm c ∙ length-range 1 n) in
+      map-ext (back ps) (λ x. 1 + place ps x) ps (each-all {P = λ x. back ps x ≡ 1 + place ps x} ps (λ x. omega arith))
+      ∙ map-place 1 ps links-distinct
+      ∙ ap (range 1) (all-length n ps c) in
       rw onto at (Permᴰ·map (back ps) (List·Permᴰ·trans d (Permᴰ·symm c)))
 
   -- the right leaf of a right leaf's left leaf is itself
@@ -191,11 +193,47 @@ module _ (n : ℕ) (ps : List ℕ) (c : List·Permᴰ ps (range 1 n)) where
       let Home : ℕ → Type 0 = λ x. to ps (back ps x) ≡ x in
       eachRow-zip t
       (λ i u l h e.
-          across-ext (rightCross ps σ τ) (cross (place τ) far) (leaves u) (leaves l)
-          (each-map (leaves u) (λ x p. each-map (leaves l) (λ y q. right-seen σ τ x y p q) (h .1)) (h .0))
-          ∙ e)
+      across-ext (rightCross ps σ τ) (cross (place τ) far) (leaves u) (leaves l)
+      (each-map (leaves u) (λ x p. each-map (leaves l) (λ y q. right-seen σ τ x y p q) (h .1)) (h .0))
+      ∙ e)
       (each-under Home t (each-perm Home (Permᴰ·symm d) there-and-back))
       (own-seen (place τ) far lay t (rising n τ (List·Permᴰ·trans (order-perm lay t) d)))
+
+  -- ---- no two links end at one place
+
+  -- the link that ends at a place of the right order, and the right leaf whose link begins at a place of the left order
+  end-back : (τ : List ℕ) → List·Permᴰ τ (range 1 n) → Each (λ a. back ps (getD τ (end ps τ a) 0) ≡ a) (range 1 n)
+  end-back τ d =
+      let there = each-perm (λ x. getD τ (place τ x) 0 ≡ x) d (at-place τ (all-distinct n τ d)) in
+      range-each (λ a. back ps (getD τ (end ps τ a) 0) ≡ a) 1 n
+      (λ a p q.
+      let m = mem-perm c (mem-at ps (pred a) (omega (arith, all-length n ps c))) in
+      rw (each-mem (λ x. getD τ (place τ x) 0 ≡ x) there m, place-at ps (pred a) links-distinct (omega (arith, all-length n ps c)))
+      (omega arith))
+
+  start-there : (σ : List ℕ) → List·Permᴰ σ (range 1 n) → Each (λ x. to ps (getD σ (place σ (back ps x)) 0) ≡ x) (range 1 n)
+  start-there σ d =
+      let there = each-perm (λ x. getD σ (place σ x) 0 ≡ x) d (at-place σ (all-distinct n σ d)) in
+      each-intro (λ x. to ps (getD σ (place σ (back ps x)) 0) ≡ x) (range 1 n)
+      (λ x m.
+      let h = place-below ps x (mem-perm (Permᴰ·symm c) m) in
+      let b = mem-range (back ps x) 1 n (omega arith) (omega (arith, all-length n ps c)) in
+      rw (each-mem (λ x. getD σ (place σ x) 0 ≡ x) there b) (each-mem (λ x. to ps (back ps x) ≡ x) there-and-back m))
+
+  pub ends-apart : (τ xs : List ℕ) → List·Permᴰ τ (range 1 n) → List·Permᴰ xs (range 1 n) →
+      Pairwise (λ a b. end ps τ a ≢ end ps τ b) xs
+  ends-apart τ xs d e =
+      let back-at : ℕ → ℕ = λ r. back ps (getD τ r 0) in
+      undone-apart (end ps τ) back-at xs
+      (each-perm (λ a. back-at (end ps τ a) ≡ a) (Permᴰ·symm e) (end-back τ d)) (all-distinct n xs e)
+
+  pub starts-apart : (σ xs : List ℕ) → List·Permᴰ σ (range 1 n) → List·Permᴰ xs (range 1 n) →
+      Pairwise (λ x y. place σ (back ps x) ≢ place σ (back ps y)) xs
+  starts-apart σ xs d e =
+      let start : ℕ → ℕ = λ x. place σ (back ps x) in
+      let there-at : ℕ → ℕ = λ r. to ps (getD σ r 0) in
+      undone-apart start there-at xs
+      (each-perm (λ x. there-at (start x) ≡ x) (Permᴰ·symm e) (start-there σ d)) (all-distinct n xs e)
 
 -- ---- the bound
 

@@ -7,3 +7,7 @@ pub mod Sums
 pub mod Crossings
 pub mod Freeing
 pub mod Run
+pub mod Entanglement
+pub mod Turning
+pub mod Table
+pub mod Bench

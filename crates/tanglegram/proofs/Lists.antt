@@ -53,6 +53,12 @@ pairwise-split R (x ∷ xs) ys d =
     let s = each-split (R x) xs ys (d .0) in
     ((s .0, r .0), r .1, (s .1, r .2))
 
+-- what can be undone keeps different entries apart
+pub undone-apart : (f g : ℕ → ℕ) (xs : List ℕ) → Each (λ x. g (f x) ≡ x) xs → Distinct xs → Pairwise (λ x y. f x ≢ f y) xs
+undone-apart f g [] u d = tt
+undone-apart f g (x ∷ xs) u d =
+    (each-zip xs (λ y h e z. h (sym (u .0) ∙ ap g z ∙ e)) (d .0) (u .1), undone-apart f g xs (u .1) (d .1))
+
 pub each-perm : (P : ℕ → Type 0) {xs ys : List ℕ} → List·Permᴰ xs ys → Each P xs → Each P ys
 each-perm P List·Permᴰ·nil p = tt
 each-perm P (List·Permᴰ·cons e d) p = (subst P e (p .0), each-perm P d (p .1))
@@ -166,6 +172,13 @@ mem-range a k (suc n) p q = go (decLt k a) (λ h. mem-range a (suc k) n h (omega
     go : Dec (k < a) → (k < a → List·Memᴰ a (range (suc k) n)) → List·Memᴰ a (k ∷ range (suc k) n)
     go (yes h) f = List·Memᴰ·tail (f h)
     go (no h) f = List·Memᴰ·head {x = k} (omega arith)
+
+-- a list of the numbers 1 to n, in any order: none stands twice, and it has n entries
+pub all-distinct : (n : ℕ) (xs : List ℕ) → List·Permᴰ xs (range 1 n) → Distinct xs
+all-distinct n xs d = distinct-perm (Permᴰ·symm d) (range-distinct 1 n)
+
+pub all-length : (n : ℕ) (xs : List ℕ) → List·Permᴰ xs (range 1 n) → length xs ≡ n
+all-length n xs d = length-perm d ∙ length-range 1 n
 
 -- the last of a range may stand first
 pub range-snoc : (k n : ℕ) → List·Permᴰ (range k (suc n)) ((k + n) ∷ range k n)

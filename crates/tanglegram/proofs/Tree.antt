@@ -56,7 +56,7 @@ module _ (n : ℕ) (up low : ℕ → ℕ) (rule : Rule n up low) where
           let above = leb-false k n e in
           let c = rule (k - n) (omega arith) (omega arith) in
           let child : (j : ℕ) → j < n + (k - n) → deep up low n f j ≡ deep up low n g j =
-              λ j b. r j (omega arith) (omega arith) (omega arith) in
+          λ j b. r j (omega arith) (omega arith) (omega arith) in
           ap₂ (fork (k - n)) (child (up (k - n)) (c .upper-below)) (child (low (k - n)) (c .lower-below))
 
   pub object-leaf : (k : ℕ) → k ≤ n → object up low n k ≡ leaf k
@@ -70,7 +70,7 @@ module _ (n : ℕ) (up low : ℕ → ℕ) (rule : Rule n up low) where
       let c = rule i p q in
       let f = n + i in
       let child : (j : ℕ) → j < n + i → deep up low n f j ≡ deep up low n j j =
-          λ j b. deep-enough f j j (omega arith) (omega arith) (omega arith) in
+      λ j b. deep-enough f j j (omega arith) (omega arith) (omega arith) in
       deep-enough f (suc f) f (omega arith) (omega arith) (omega arith)
       ∙ rw (lt-leb (n + i) n (omega arith), add-sub-cancel-left n i)
       (ap₂ (fork i) (child (up i) (c .upper-below)) (child (low i) (c .lower-below)))
@@ -158,9 +158,9 @@ module _ (n : ℕ) (up low : ℕ → ℕ) (rule : Rule n up low) where
       let U = used up low m in
       let t = object-fork n up low rule (suc m) (omega arith) h in
       let both : List·Permᴰ (rest ++ (u ∷ l ∷ U)) (range 1 (n + m)) =
-          List·Permᴰ·trans (Permᴰ·middle u rest (l ∷ U))
-          (List·Permᴰ·trans (List·Permᴰ·cons refl (Permᴰ·middle l rest U))
-          (List·Permᴰ·trans (Permᴰ·append-right U (Permᴰ·symm P)) (F .all))) in
+      List·Permᴰ·trans (Permᴰ·middle u rest (l ∷ U))
+      (List·Permᴰ·trans (List·Permᴰ·cons refl (Permᴰ·middle l rest U))
+      (List·Permᴰ·trans (Permᴰ·append-right U (Permᴰ·symm P)) (F .all))) in
       let old-rows = List·Permᴰ·trans (Permᴰ·symm (gather-perm rows-of P)) (F .has-rows) in
       record {
         roots = (n + suc m) ∷ rest;
