@@ -1,0 +1,33 @@
+-- Seen places: one bit for each of 512 places, in eight words of 64 bits.
+use Prim.Native.Nat.{ℕ, suc, _-_, _/_, _%_, _^_}
+use mathlib.Core.List.{List, [], _∷_}
+use lib.Bits.{bitOr}
+use lib.Dec.{ltb}
+use lib.ListN.{getD, set}
+use Rattle.tanglegram.specs.Entanglement.{sum}
+use Rattle.tanglegram.specs.Lists.{range, bit}
+
+-- The digit of a word at i, 0 or 1.
+unfoldable pub digit : ℕ → ℕ → ℕ
+digit x i = x / 2 ^ i % 2
+
+-- 1 if place q is marked, else 0.
+unfoldable pub marked : List ℕ → ℕ → ℕ
+marked w q = digit (getD w (q / 64) 0) (q % 64)
+
+-- The words with place p marked too.
+unfoldable pub markAt : List ℕ → ℕ → List ℕ
+markAt w p = set w (p / 64) (bitOr (getD w (p / 64) 0) (2 ^ (p % 64)))
+
+-- The words with each of the places ps marked too.
+unfoldable pub markAll : List ℕ → List ℕ → List ℕ
+markAll w [] = w
+markAll w (p ∷ ps) = markAll (markAt w p) ps
+
+-- How many places past p are marked, up to place 511.
+unfoldable pub past : List ℕ → ℕ → ℕ
+past w p = sum (marked w) (range (suc p) (511 - p))
+
+-- How many of the places ps are past p.
+unfoldable pub above : ℕ → List ℕ → ℕ
+above p ps = sum (λ q. bit (ltb p q)) ps

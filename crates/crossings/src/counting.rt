@@ -1,0 +1,107 @@
+// Counting crossings: by seen places along an order, pair by pair from the definition, and across two runs of leaves.
+ghost use mathlib.Core.Path.{_≡_};
+ghost use mathlib.Core.Bool.{_&&_, _||_};
+ghost use mathlib.Core.List.{[], _∷_, map};
+ghost use Prim.Native.Nat.{suc, _+_, _<_, _≤_};
+ghost use lib.Dec.{ltb};
+ghost use lib.ListN.{length, take, drop};
+ghost use Rattle.tanglegram.specs.Crossings.{across, inverted, pairs};
+ghost use Rattle.tanglegram.specs.Lists.{Distinct, Each, bit, range};
+ghost use Rattle.crossings.specs.Arrays.{Linked, OneToN, at, crossAt};
+ghost use Rattle.crossings.specs.Seen.{markAll};
+use crate::leaves::held;
+use crate::seen::mark;
+use crate::seen::ones_past;
+
+// The crossings of an order of the leaves 1 to n, whose links end at the far places: for each leaf the seen places past
+// its own, which is then seen too.
+pub fn count_seen(order: &[u16; 512], far: &[u16; 512], n: usize) -> u32
+    requires { ⌜ (n ≤ 512) × OneToN n (now order) ⌝ }
+    requires { ⌜ Each (λ a. at (now far) a < 512) (range 1 n) × Distinct (map (at (now far)) (range 1 n)) ⌝ }
+    ensures { λ r. ⌜ r ≡ pairs (inverted (at (now (far .entry)))) (take n (now (order .entry))) ⌝ }
+{
+    let mut w = [0u64; 8];
+    let mut count: u32 = 0;
+    let mut i = 0;
+    while i < n {
+        let p = held(far, order[i]);
+        count += ones_past(&w, p);
+        mark(&mut w, p);
+        i += 1;
+    }
+    count
+}
+
+// 1 if two links cross, else 0: a's left place is la and its right place ra, and b's are lb and rb.
+fn crossed(la: u16, lb: u16, ra: u16, rb: u16) -> u32
+    ensures { λ r. ⌜ (r ≡ bit (ltb la lb && ltb rb ra || ltb lb la && ltb ra rb)) × (r ≤ 1) ⌝ }
+{
+    if la < lb && rb < ra || lb < la && ra < rb {
+        1
+    } else {
+        0
+    }
+}
+
+// How many of the links of the leaves before i + 1 cross its own.
+fn crossed_before(left: &[u16; 512], far: &[u16; 512], i: usize) -> u32
+    requires { ⌜ i < 512 ⌝ }
+    ensures { λ r. ⌜ r ≡ across (crossAt (now (left .entry)) (now (far .entry))) (range 1 i) (suc i ∷ []) ⌝ }
+{
+    let mut count: u32 = 0;
+    let mut j = 0;
+    while j < i {
+        count += crossed(left[j], left[i], far[j], far[i]);
+        j += 1;
+    }
+    count
+}
+
+// The crossings of n links, pair by pair: left has the place of each left leaf, far that of its link's right end.
+pub fn count_pairs(left: &[u16; 512], far: &[u16; 512], n: usize) -> u32
+    requires { ⌜ n ≤ 512 ⌝ }
+    ensures { λ r. ⌜ r ≡ pairs (crossAt (now (left .entry)) (now (far .entry))) (range 1 n) ⌝ }
+{
+    let mut count: u32 = 0;
+    let mut i = 0;
+    while i < n {
+        count += crossed_before(left, far, i);
+        i += 1;
+    }
+    count
+}
+
+// Marks the far places of the first k leaves of a list.
+fn mark_run(w: &mut [u64; 8], leaves: &[u16; 512], k: usize, far: &[u16; 512])
+    requires { ⌜ (k ≤ 512) × (k ≤ length (now leaves)) × Each (Linked (now far)) (take k (now leaves)) ⌝ }
+    ensures { λ _. ⌜ now (w .exit)
+        ≡ markAll (now (w .entry)) (map (at (now (far .entry))) (take k (now (leaves .entry)))) ⌝ }
+{
+    let mut i = 0;
+    while i < k {
+        let p = held(far, leaves[i]);
+        mark(w, p);
+        i += 1;
+    }
+}
+
+// The crossings between two runs of leaves, the first entries of a list and the next: the far places of the first run
+// are seen, and for each leaf of the second those past its own are counted.
+pub fn count_across(leaves: &[u16; 512], first: usize, second: usize, far: &[u16; 512]) -> u32
+    requires { ⌜ (first + second ≤ 512) × (first + second ≤ length (now leaves)) ⌝ }
+    requires { ⌜ Each (Linked (now far)) (take (first + second) (now leaves)) ⌝ }
+    requires { ⌜ Distinct (map (at (now far)) (take first (now leaves))) ⌝ }
+    ensures { λ r. ⌜ r ≡ across (inverted (at (now (far .entry)))) (take first (now (leaves .entry)))
+        (take second (drop first (now (leaves .entry)))) ⌝ }
+{
+    let mut w = [0u64; 8];
+    mark_run(&mut w, leaves, first, far);
+    let mut count: u32 = 0;
+    let mut j = 0;
+    while j < second {
+        let p = held(far, leaves[first + j]);
+        count += ones_past(&w, p);
+        j += 1;
+    }
+    count
+}

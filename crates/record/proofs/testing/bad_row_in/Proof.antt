@@ -1,0 +1,44 @@
+use mathlib.Core.Path.{refl, ap, _∙_}
+use lib.ListN.{set}
+use Rattle.trees.specs.Rows.{upper, lower, size}
+use Rattle.trees.specs.Rule.{badRow}
+use Rattle.record.proofs.Tables.{bad-row-filled}
+use borrow.Author.Needs.{needs}
+use Rattle.record.proofs.testing.bad_row_in.Statement.{statement}
+use Rattle.record.proofs.testing.bad_row_in.Tie as tie
+use Rattle.record.proofs.testing.bad_row_in.Reads as reads
+use Rattle.record.proofs.testing.bad_row_in.Lts as lts
+use Rattle.record.proofs.copying.copied.Reads as copied-reads
+use Rattle.trees.proofs.bad_row.Reads as bad-row-reads
+
+-- src/testing.rt:88:18
+slice-aggregate-copied : tie.Need-slice-aggregate-copied
+slice-aggregate-copied c = search needs
+
+-- src/testing.rt:88:5
+copied-requires : tie.Need-copied-requires
+copied-requires c κs = search needs
+
+-- src/testing.rt:89:5
+array-write-tab : tie.Need-array-write-tab
+array-write-tab c = search needs
+
+-- src/testing.rt:90:5
+bad-row-requires : tie.Need-bad-row-requires
+bad-row-requires c κs = search needs
+
+-- src/testing.rt:83:1
+returns : tie.Need-returns
+returns c =
+    let p = c .before .before .before in
+    let s = p .before .before .before .args in
+    let n = s .n in
+    let h = p .before .before .before .pre in
+    c .bad-row .ensures
+    ∙ ap (λ t. let T = set t 1022 n in badRow (size T) (upper T) (lower T)) (p .copied .ensures)
+    ∙ bad-row-filled _ (s .list .now) n refl (h .2) (h .1) (h .0)
+
+pub bad-row-in-spec : {M : Type 1} → statement M
+bad-row-in-spec =
+    tie.close
+    (tie.spec slice-aggregate-copied copied-requires array-write-tab bad-row-requires returns)

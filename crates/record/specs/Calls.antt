@@ -1,0 +1,88 @@
+-- What each call on records answers, and what it leaves in what was lent to it, for every input.
+use Prim.Native.Nat.{ℕ}
+use mathlib.Core.Path.{_≡_}
+use mathlib.Core.Bool.{Bool, true, false, cond}
+use mathlib.Core.List.{List, _++_}
+use lib.Dec.{eqb}
+use lib.ListN.{length, drop, set}
+use Rattle.record.specs.declared.refusal.Refusal.{Refusal}
+use Rattle.record.specs.declared.reading.Header.{Header}
+use Rattle.record.specs.declared.reading.Reading.{Reading}
+use Rattle.record.specs.declared.reading.Reading.the-variants.{Accepted, Refused}
+use Rattle.record.specs.declared.unpacking.Unpacked.{Unpacked}
+use Rattle.record.specs.Fields.{holdOf, sizeOf, Parts, parts, packed}
+use Rattle.record.specs.Refusals.{refusal, unpacking, packing, holding}
+
+-- A refusal by its number, 0 for none; whether a call with that number is accepted.
+abbrev pub refused : ℕ → Refusal
+refused k = record { number = k }
+
+abbrev pub accepted : ℕ → Bool
+accepted k = eqb k 0
+
+-- What a lent buffer holds afterwards: if accepted, the part in its first places and beyond as found; if refused, as found.
+abbrev pub lent : ℕ → List ℕ → List ℕ → List ℕ
+lent k part found = cond (accepted k) (part ++ drop (length part) found) found
+
+-- A number that a refused call answers by zero.
+abbrev pub orZero : ℕ → ℕ → ℕ
+orZero k x = cond (accepted k) x 0
+
+-- ---- checking and reading
+
+pub record Checks (s : List ℕ) (answer : Refusal) : Type 0 where
+  pub answers : answer ≡ refused (refusal s)
+
+abbrev pub either : Bool → Reading → Reading → Reading
+either true a b = a
+either false a b = b
+
+unfoldable pub readingOf : List ℕ → Reading
+unfolding refusal
+readingOf s = either (accepted (refusal s)) (Accepted (record { hold = holdOf s; n = sizeOf s })) (Refused (refused (refusal s)))
+
+-- Document 01's number and values for each case of a reading.
+abbrev pub numberOf : Reading → ℕ
+numberOf (Accepted h) = 0
+numberOf (Refused r) = r .number
+
+abbrev pub holdIn : Reading → ℕ
+holdIn (Accepted h) = h .hold
+holdIn (Refused r) = 0
+
+abbrev pub sizeIn : Reading → ℕ
+sizeIn (Accepted h) = h .n
+sizeIn (Refused r) = 0
+
+pub record Reads (s : List ℕ) (answer : Reading) : Type 0 where
+  pub answers : answer ≡ readingOf s
+
+-- ---- unpacking: what it answers if refused; five buffers, and what they hold afterwards
+
+abbrev pub unpackedNone : ℕ → Unpacked
+unpackedNone k = record { refusal = refused k; hold = 0; n = 0 }
+
+pub record Unpacks (s left right links left-layout right-layout : List ℕ) (answer : Unpacked)
+    (left′ right′ links′ left-layout′ right-layout′ : List ℕ) : Type 0 where
+  pub answers :
+      let k = unpacking s left right links left-layout right-layout in
+      answer ≡ record { refusal = refused k; hold = orZero k (holdOf s); n = orZero k (sizeOf s) }
+  pub leaves-left : left′ ≡ lent (unpacking s left right links left-layout right-layout) (parts s .left-rows) left
+  pub leaves-right : right′ ≡ lent (unpacking s left right links left-layout right-layout) (parts s .right-rows) right
+  pub leaves-links : links′ ≡ lent (unpacking s left right links left-layout right-layout) (parts s .links) links
+  pub leaves-left-layout :
+      left-layout′ ≡ lent (unpacking s left right links left-layout right-layout) (parts s .left-layout) left-layout
+  pub leaves-right-layout :
+      right-layout′ ≡ lent (unpacking s left right links left-layout right-layout) (parts s .right-layout) right-layout
+
+-- ---- packing: a buffer, and what it holds afterwards
+
+pub record Packs (P : Parts) (out : List ℕ) (answer : Refusal) (out′ : List ℕ) : Type 0 where
+  pub answers : answer ≡ refused (packing P out)
+  pub leaves : out′ ≡ lent (packing P out) (packed P) out
+
+-- ---- setting the hold: the record, and what it is afterwards
+
+pub record SetsHold (s : List ℕ) (letter : ℕ) (answer : Refusal) (s′ : List ℕ) : Type 0 where
+  pub answers : answer ≡ refused (holding s letter)
+  pub leaves : s′ ≡ cond (accepted (holding s letter)) (set s 5 letter) s

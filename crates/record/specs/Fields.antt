@@ -1,0 +1,83 @@
+-- Document 01's record: what its bytes say, where its parts stand, and the bytes that parts make.
+use Prim.Native.Nat.{ℕ, _+_, _-_, _*_, _/_, _%_, _≤_}
+use mathlib.Core.Path.{_≡_}
+use mathlib.Core.List.{List, [], _∷_, _++_, map}
+use lib.ListN.{length, getD, take, drop}
+use Rattle.tanglegram.specs.Lists.{range}
+
+-- The number of two bytes at a place, the high byte first.
+abbrev pub two : List ℕ → ℕ → ℕ
+two s k = getD s k 0 * 256 + getD s (k + 1) 0
+
+-- The m numbers of two bytes from place k on, and the m bytes from place k on.
+unfoldable pub numbers : List ℕ → ℕ → ℕ → List ℕ
+numbers s k m = map (λ i. two s (k + 2 * i)) (range 0 m)
+
+abbrev pub bytes : List ℕ → ℕ → ℕ → List ℕ
+bytes s k m = take m (drop k s)
+
+-- The bytes of a list of numbers.
+unfoldable pub split : List ℕ → List ℕ
+split [] = []
+split (x ∷ xs) = x / 256 ∷ x % 256 ∷ split xs
+
+-- Byte 5 is the hold; bytes 6 and 7 are n.
+abbrev pub holdOf : List ℕ → ℕ
+holdOf s = getD s 5 0
+
+abbrev pub sizeOf : List ℕ → ℕ
+sizeOf s = two s 6
+
+-- Where the parts of a record over n leaves begin, the left rows beginning at 8; the record's length.
+abbrev pub rightAt : ℕ → ℕ
+rightAt n = 8 + 4 * (n - 1)
+
+abbrev pub linksAt : ℕ → ℕ
+linksAt n = 8 + 8 * (n - 1)
+
+abbrev pub leftLayoutAt : ℕ → ℕ
+leftLayoutAt n = linksAt n + 2 * n
+
+abbrev pub rightLayoutAt : ℕ → ℕ
+rightLayoutAt n = leftLayoutAt n + (n - 1)
+
+abbrev pub lengthOf : ℕ → ℕ
+lengthOf n = 12 * n - 2
+
+-- What a record holds. Rows are flat, upper then lower.
+pub record Parts : Type 0 where
+  pub hold : ℕ
+  pub size : ℕ
+  pub left-rows : List ℕ
+  pub right-rows : List ℕ
+  pub links : List ℕ
+  pub left-layout : List ℕ
+  pub right-layout : List ℕ
+
+-- The parts read from bytes as a record over n leaves, and as a record over as many leaves as it says.
+unfoldable pub partsOf : List ℕ → ℕ → Parts
+partsOf s n = record {
+  hold = holdOf s;
+  size = n;
+  left-rows = numbers s 8 (2 * (n - 1));
+  right-rows = numbers s (rightAt n) (2 * (n - 1));
+  links = numbers s (linksAt n) n;
+  left-layout = bytes s (leftLayoutAt n) (n - 1);
+  right-layout = bytes s (rightLayoutAt n) (n - 1);
+}
+
+abbrev pub parts : List ℕ → Parts
+parts s = partsOf s (sizeOf s)
+
+-- The bytes of a record with these parts: `TGP`, version 1, hold, n, then part after part.
+unfoldable pub packed : Parts → List ℕ
+packed P =
+    84 ∷ 71 ∷ 80 ∷ 0 ∷ 1 ∷ P .hold ∷ P .size / 256 ∷ P .size % 256
+    ∷ (split (P .left-rows) ++ (split (P .right-rows) ++ (split (P .links) ++ (P .left-layout ++ P .right-layout))))
+
+-- A record over n leaves, from 1 to 512, has the length that it should.
+pub record Sized (s : List ℕ) (n : ℕ) : Type 0 where
+  pub says : sizeOf s ≡ n
+  pub some : 1 ≤ n
+  pub most : n ≤ 512
+  pub whole : length s ≡ lengthOf n

@@ -1,0 +1,30 @@
+// Setting the hold: one letter, byte 5, and nothing else.
+ghost use Rattle.record.specs.Calls.{SetsHold};
+ghost use mathlib.Core.Path.{_≡_};
+ghost use Rattle.record.specs.Refusals.{holding};
+use crate::reading::refusal_number;
+use crate::refusal::HOLD;
+use crate::refusal::Refusal;
+use crate::testing::is_hold;
+
+// Setting the hold's refusal, or 0: the letter's comes before the record's.
+fn holding_number(s: &[u8], letter: u8) -> u16
+    ensures { λ r. ⌜ r ≡ holding (now (s .entry)) letter ⌝ }
+{
+    if !is_hold(letter) {
+        return HOLD;
+    }
+    refusal_number(s)
+}
+
+// Puts the letter into byte 5 of an accepted record; else it answers the refusal and changes nothing.
+pub fn set_hold(s: &mut [u8], letter: u8) -> Refusal
+    ensures { λ r. ⌜ SetsHold (now (s .entry)) letter r (now (s .exit)) ⌝ }
+{
+    let k = holding_number(s, letter);
+    if k != 0 {
+        return Refusal { number: k };
+    }
+    s[5] = letter;
+    Refusal { number: 0 }
+}

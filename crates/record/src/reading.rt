@@ -1,0 +1,54 @@
+// Reading a record: its refusal, or what its heading says.
+ghost use mathlib.Core.Path.{_≡_};
+ghost use Rattle.record.specs.Calls.{Checks, Reads};
+ghost use Rattle.record.specs.Refusals.{refusal};
+use crate::copying::number;
+use crate::refusal::Refusal;
+use crate::testing::contents_number;
+use crate::testing::heading_number;
+
+// What an accepted record's heading says.
+pub struct Header {
+    pub hold: u8,
+    pub n: u16,
+}
+
+// What reading finds.
+pub enum Reading {
+    Accepted(Header),
+    Refused(Refusal),
+}
+
+// The record's refusal, 1 to 10, or 0.
+pub fn refusal_number(s: &[u8]) -> u16
+    ensures { λ r. ⌜ r ≡ refusal (now (s .entry)) ⌝ }
+{
+    let k = heading_number(s);
+    if k != 0 {
+        return k;
+    }
+    contents_number(s, number(s, 6))
+}
+
+// Checks any bytes: the refusal of the record that they should be, with number 0 where there is none.
+pub fn check(s: &[u8]) -> Refusal
+    ensures { λ r. ⌜ Checks (now (s .entry)) r ⌝ }
+{
+    Refusal {
+        number: refusal_number(s),
+    }
+}
+
+// Reads any bytes: the hold and n of an accepted record, or the refusal.
+pub fn read(s: &[u8]) -> Reading
+    ensures { λ r. ⌜ Reads (now (s .entry)) r ⌝ }
+{
+    let k = refusal_number(s);
+    if k != 0 {
+        return Reading::Refused(Refusal { number: k });
+    }
+    Reading::Accepted(Header {
+        hold: s[5],
+        n: number(s, 6),
+    })
+}

@@ -1,0 +1,29 @@
+// Refusals: document 01's numbers, each with its name.
+
+// Why a call is refused; number 0 where it is not.
+pub struct Refusal {
+    pub number: u16,
+}
+
+// fewer than 8 bytes
+pub const SHORT: u16 = 1;
+// the mark isn't `TGP`
+pub const MARK: u16 = 2;
+// the version isn't 1
+pub const VERSION: u16 = 3;
+// the hold isn't one of the four letters
+pub const HOLD: u16 = 4;
+// n is 0 or above 512
+pub const SIZE: u16 = 5;
+// the length isn't 12n-2; in packing, a list has the wrong length
+pub const LENGTH: u16 = 6;
+// a left row breaks the tree rule
+pub const LEFT_ROW: u16 = 7;
+// a right row does
+pub const RIGHT_ROW: u16 = 8;
+// the links aren't one-to-one on 1 to n
+pub const LINKS: u16 = 9;
+// a layout byte isn't 0 or 1
+pub const LAYOUT: u16 = 10;
+// an output buffer has too few places
+pub const ROOM: u16 = 14;

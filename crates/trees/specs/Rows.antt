@@ -1,0 +1,30 @@
+-- A tree's rows as a table, a list of 1023 numbers: row i has its upper entry at place 2(i - 1) and its lower one right after it, and the
+-- last place holds n. What stands between the rows and the last place plays no part.
+use Prim.Native.Nat.{ℕ, pred, _+_, _*_, _≤_}
+use mathlib.Core.List.{List}
+use lib.ListN.{getD}
+use Rattle.tanglegram.specs.Tree.{Tree, object, tree, Rule}
+
+-- The two entries of row i.
+abbrev pub upper : List ℕ → ℕ → ℕ
+upper T i = getD T (2 * pred i) 0
+
+abbrev pub lower : List ℕ → ℕ → ℕ
+lower T i = getD T (2 * pred i + 1) 0
+
+-- The number of leaves, n.
+abbrev pub size : List ℕ → ℕ
+size T = getD T 1022 0
+
+-- Object k, and the tree of the last object.
+abbrev pub objectOf : List ℕ → ℕ → Tree
+objectOf T k = object (upper T) (lower T) (size T) k
+
+abbrev pub treeOf : List ℕ → Tree
+treeOf T = tree (upper T) (lower T) (size T)
+
+-- A table of 1 to 512 leaves whose rows keep the tree rule.
+pub record Good (T : List ℕ) : Type 0 where
+  pub some : 1 ≤ size T
+  pub most : size T ≤ 512
+  pub rule : Rule (size T) (upper T) (lower T)

@@ -1,0 +1,46 @@
+// Layouts: what a byte says, and a table with a layout applied.
+ghost use mathlib.Core.Path.{_≡_};
+ghost use Prim.Native.Nat.{_+_, _≤_};
+ghost use mathlib.Core.List.{_++_};
+ghost use lib.ListN.{length, drop};
+ghost use Rattle.tanglegram.specs.Order.{turned, order};
+ghost use Rattle.trees.specs.Rows.{Good, size, treeOf};
+ghost use Rattle.trees.specs.Exchange.{exchanged};
+use crate::leaves::leaf_order;
+
+// Whether a layout byte turns its row over.
+pub fn is_turned(x: u8) -> bool
+    ensures { λ r. ⌜ r ≡ turned x ⌝ }
+{
+    x != 0
+}
+
+// Exchanges the two entries of each row that the layout turns.
+pub fn exchange(tab: &mut [u16; 1023], lay: &[u8])
+    requires { ⌜ size (now tab) ≤ 512 ⌝ }
+    requires { ⌜ length (now lay) + 1 ≡ size (now tab) ⌝ }
+    ensures { λ _. ⌜ now (tab .exit) ≡ exchanged (now (tab .entry)) (now (lay .entry)) ⌝ }
+{
+    let mut i = 0;
+    while i < lay.len() {
+        if is_turned(lay[i]) {
+            let a = tab[2 * i];
+            tab[2 * i] = tab[2 * i + 1];
+            tab[2 * i + 1] = a;
+        }
+        i += 1;
+    }
+}
+
+// Writes the order that the layout gives into out's first n places, and leaves the others as they are.
+pub fn layout_order(tab: &[u16; 1023], lay: &[u8], out: &mut [u16; 512])
+    requires { ⌜ Good (now tab) ⌝ }
+    requires { ⌜ length (now lay) + 1 ≡ size (now tab) ⌝ }
+    requires { ⌜ length (now out) ≡ 512 ⌝ }
+    ensures { λ _. ⌜ now (out .exit)
+        ≡ order (now (lay .entry)) (treeOf (now (tab .entry))) ++ drop (size (now (tab .entry))) (now (out .entry)) ⌝ }
+{
+    let mut laid = *tab;
+    exchange(&mut laid, lay);
+    leaf_order(&laid, out);
+}
