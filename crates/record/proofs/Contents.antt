@@ -1,5 +1,4 @@
 -- The refusal of the parts, test by test, for code that returns at the first that holds; and what good parts say.
-use Prim.Native.Nat.{ℕ}
 use mathlib.Core.Path.{_≡_, refl}
 use mathlib.Core.Bool.{true, false, not}
 use native.Mathlib.Omega.{arith}

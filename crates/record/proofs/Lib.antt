@@ -6,3 +6,4 @@ pub mod Contents
 pub mod Acceptance
 pub mod Outcomes
 pub mod Tables
+pub mod Meaning

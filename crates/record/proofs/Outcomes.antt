@@ -1,20 +1,19 @@
 -- From what a call found to its statement: a refused call leaves what was lent as found, an accepted one writes it.
-use Prim.Native.Nat.{ℕ, _+_, _-_, _*_, _≤_}
+use Prim.Native.Nat.{ℕ, _-_, _*_, _≤_}
 use mathlib.Core.Path.{_≡_, refl, sym, ap, _∙_}
 use mathlib.Core.Logic.{_≢_}
 use mathlib.Core.List.{List, _++_}
 use native.Mathlib.Omega.{arith}
 use borrow.Author.Tests.{eq-eqb, ne-eqb}
-use lib.ListN.{length, drop, set, length-drop}
-use lib.Seq.{sets, length-take-le}
-use Rattle.record.specs.declared.refusal.Refusal.{Refusal}
+use lib.ListN.{length, drop, set}
+use lib.Seq.{sets}
 use Rattle.record.specs.declared.unpacking.Unpacked.{Unpacked}
 use Rattle.record.specs.declared.reading.Reading.the-variants.{Accepted, Refused}
-use Rattle.record.specs.Fields.{holdOf, sizeOf, bytes, rightAt, linksAt, leftLayoutAt, rightLayoutAt, Parts, parts, partsOf}
+use Rattle.record.specs.Fields.{holdOf, sizeOf, rightAt, linksAt, leftLayoutAt, rightLayoutAt, Parts, parts, partsOf}
 use Rattle.record.specs.Refusals.{refusal, room, unpacking, holding}
 use Rattle.record.specs.Calls.{refused, lent, orZero, Checks, readingOf, Reads, unpackedNone, Unpacks, SetsHold}
 use Rattle.record.proofs.Acceptance.{else-first, else-second, accepted-sized, room-good}
-use Rattle.record.proofs.Stores.{sets-front, length-numbers}
+use Rattle.record.proofs.Stores.{sets-front, length-numbers, length-bytes}
 
 -- ---- numbers and buffers
 
@@ -54,10 +53,6 @@ module _ (s : List ℕ) (letter : ℕ) {k : ℕ} (e : k ≡ holding s letter) wh
   hold-set z = record { answers = ap refused (sym z ∙ e); leaves = rw (← e, eq-eqb k 0 z) refl }
 
 -- ---- unpacking
-
--- the first n - 1 bytes of what has them
-length-bytes : (s : List ℕ) (k m : ℕ) → k + m ≤ length s → length (bytes s k m) ≡ m
-length-bytes s k m h = length-take-le m (drop k s) (omega (arith, length-drop k s))
 
 module _ (s left right links left-layout right-layout : List ℕ) where
   abbrev asked : ℕ

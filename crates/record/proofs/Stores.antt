@@ -5,10 +5,10 @@ use mathlib.Core.List.{List, [], _∷_, _++_, map}
 use native.Mathlib.Nat.{add-suc, suc-add, add-zero}
 use native.Mathlib.Numerals.{add-one}
 use native.Mathlib.Omega.{arith}
-use lib.ListN.{length, getD, set, take, drop}
+use lib.ListN.{length, getD, set, take, drop, length-drop}
 use lib.Seq.{sets, sets-eq, take-suc, length-take-le}
 use Rattle.tanglegram.specs.Lists.{range}
-use Rattle.record.specs.Fields.{two, numbers, split}
+use Rattle.record.specs.Fields.{two, numbers, bytes, split}
 
 -- two runs, one after the other
 pub sets-append : (vs ws l : List ℕ) (at : ℕ) → sets l at (vs ++ ws) ≡ sets (sets l at vs) (at + length vs) ws
@@ -51,6 +51,9 @@ getD-made f n i h = from 0 n i h ∙ ap f (omega arith)
 pub length-numbers : (s : List ℕ) (at n : ℕ) → length (numbers s at n) ≡ n
 unfolding numbers
 length-numbers s at n = length-map-range (λ i. two s (at + 2 * i)) 0 n
+
+pub length-bytes : (s : List ℕ) (k m : ℕ) → k + m ≤ length s → length (bytes s k m) ≡ m
+length-bytes s k m h = length-take-le m (drop k s) (omega (arith, length-drop k s))
 
 -- the next entry of a list after its first i
 pub take-more : (xs : List ℕ) (i : ℕ) → i < length xs → take (i + 1) xs ≡ take i xs ++ (getD xs i 0 ∷ [])

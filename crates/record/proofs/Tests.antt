@@ -1,15 +1,14 @@
 -- Laws of the tests on lists that the refusals use: each entry passes, a number is among the entries, links are one-to-one.
-use Prim.Native.Nat.{ℕ, zero, suc, _≤_, _<_, _+_}
+use Prim.Native.Nat.{ℕ, _≤_, _<_, _+_}
 use mathlib.Core.Path.{_≡_, refl, sym, ap, _∙_}
 use mathlib.Core.Logic.{_↔_}
-use mathlib.Core.Bool.{Bool, true, false, _&&_, _||_, true≢false, false≢true}
+use mathlib.Core.Bool.{Bool, true, false, _&&_, _||_, false≢true}
 use mathlib.Core.List.{List, [], _∷_, _++_, List·Permᴰ, Permᴰ·symm, List·Memᴰ, List·Memᴰ·head, List·Memᴰ·tail}
-use native.Mathlib.Omega.{arith}
 use borrow.Author.Tests.{eqb-true, eq-eqb, le-leb, lt-leb}
 use lib.Dec.{eqb, leb}
 use lib.ListN.{length, getD, take}
 use Rattle.tanglegram.specs.Lists.{Each, range}
-use Rattle.tanglegram.proofs.Lists.{each-map, each-perm, each-intro, mem-perm, mem-at, pigeon, range-distinct, length-range}
+use Rattle.tanglegram.proofs.Lists.{each-map, each-intro, mem-perm, mem-at, pigeon, range-distinct, length-range}
 use Rattle.trees.specs.Rule.{among}
 use Rattle.record.specs.Refusals.{all, isLayout, oneToOne}
 use Rattle.record.proofs.Stores.{take-more}

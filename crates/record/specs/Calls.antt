@@ -6,7 +6,6 @@ use mathlib.Core.List.{List, _++_}
 use lib.Dec.{eqb}
 use lib.ListN.{length, drop, set}
 use Rattle.record.specs.declared.refusal.Refusal.{Refusal}
-use Rattle.record.specs.declared.reading.Header.{Header}
 use Rattle.record.specs.declared.reading.Reading.{Reading}
 use Rattle.record.specs.declared.reading.Reading.the-variants.{Accepted, Refused}
 use Rattle.record.specs.declared.unpacking.Unpacked.{Unpacked}

@@ -1,5 +1,5 @@
 -- How the test of the links keeps what it has seen: a mark for each number from 1 to 512. No statement of a call cites this.
-use Prim.Native.Nat.{ℕ, zero, suc, pred}
+use Prim.Native.Nat.{ℕ, suc, pred}
 use mathlib.Core.Bool.{Bool, cond, not, _||_}
 use mathlib.Core.List.{List, map}
 use lib.Dec.{eqb, ltb}

@@ -17,7 +17,7 @@ use Rattle.tanglegram.specs.Crossings.{crosses, over, pairs, to, back, e
 use Rattle.tanglegram.specs.Crossings.{inverted, seenLeft, seenRight, between, ownAt, cost}
 use Rattle.tanglegram.proofs.Lists.{each-map, each-all, each-perm, each-pairwise, pairwise-map, pairwise-split}
 use Rattle.tanglegram.proofs.Lists.{length-range, place-head, place-tail, place-rising, at-place}
-use Rattle.tanglegram.proofs.Lists.{all-distinct, all-length, undone-apart, each-intro, each-mem, mem-at, mem-perm, mem-range, place-at, place-below, range-each}
+use Rattle.tanglegram.proofs.Lists.{map-ext, all-distinct, all-length, undone-apart, each-intro, each-mem, mem-at, mem-perm, mem-range, place-at, place-below, range-each}
 use Rattle.tanglegram.proofs.Tree.{eachRow-zip, each-under}
 use Rattle.tanglegram.proofs.Order.{order-perm}
 use Rattle.tanglegram.proofs.Sums.{pairs-append, pairs-map, pairs-perm, pairs-ext, pairs-most, across-perm, across-ext, across-swap}
@@ -137,10 +137,6 @@ own-left n ps τ lay t d =
     own-seen (place (order lay t)) (end ps τ) lay t (rising n (order lay t) (List·Permᴰ·trans (order-perm lay t) d))
 
 -- ---- the right side
-
-map-ext : (f g : ℕ → ℕ) (xs : List ℕ) → Each (λ x. f x ≡ g x) xs → map f xs ≡ map g xs
-map-ext f g [] e = refl
-map-ext f g (x ∷ xs) e = ap₂ _∷_ (e .0) (map-ext f g xs (e .1))
 
 -- the places of a list's own entries, counted from k
 map-place : (k : ℕ) (xs : List ℕ) → Distinct xs → map (λ c. k + place xs c) xs ≡ range k (length xs)

@@ -1,9 +1,9 @@
 -- Laws of Each, Pairwise and Distinct, of ranges, of places in a list, of membership and of permutations.
 use Prim.Native.Nat.{ℕ, zero, suc, _+_, _≤_, _<_}
-use mathlib.Core.Path.{_≡_, refl, sym, ap, _∙_, subst}
+use mathlib.Core.Path.{_≡_, refl, sym, ap, ap₂, _∙_, subst}
 use mathlib.Core.Logic.{_≢_}
 use mathlib.Core.Bool.{Bool, true, false, cond}
-use mathlib.Core.List.{List, [], _∷_, _++_, List·Permᴰ, List·Permᴰ·nil, List·Permᴰ·cons, List·Permᴰ·swap, List·Permᴰ·trans}
+use mathlib.Core.List.{List, [], _∷_, _++_, map, List·Permᴰ, List·Permᴰ·nil, List·Permᴰ·cons, List·Permᴰ·swap, List·Permᴰ·trans}
 use mathlib.Core.List.{Permᴰ·refl, Permᴰ·symm, Permᴰ·append-left, Permᴰ·append-right}
 use mathlib.Core.List.{List·Memᴰ, List·Memᴰ·head, List·Memᴰ·tail, List·Memᴰ·not-nil, List·Memᴰ·eq-of-singleton, Memᴰ·append-left, Memᴰ·append-right}
 use native.Mathlib.Decide.{decLt}
@@ -82,6 +82,10 @@ length-perm (List·Permᴰ·trans d e) = length-perm d ∙ length-perm e
 
 pub perm-append : {a a′ b b′ : List ℕ} → List·Permᴰ a a′ → List·Permᴰ b b′ → List·Permᴰ (a ++ b) (a′ ++ b′)
 perm-append {a′ = a′} {b = b} d e = List·Permᴰ·trans (Permᴰ·append-right b d) (Permᴰ·append-left a′ e)
+
+pub map-ext : (f g : ℕ → ℕ) (xs : List ℕ) → Each (λ x. f x ≡ g x) xs → map f xs ≡ map g xs
+map-ext f g [] e = refl
+map-ext f g (x ∷ xs) e = ap₂ _∷_ (e .0) (map-ext f g xs (e .1))
 
 pub append-nil : (xs : List ℕ) → xs ++ [] ≡ xs
 append-nil [] = refl

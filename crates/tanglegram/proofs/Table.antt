@@ -128,6 +128,14 @@ rule-fair n up low up′ low′ ps pos r r′ c =
     linked-fair n (tree up low n) (tree up′ low′ n) ps (leaves-once n up low r pos) (leaves-once n up′ low′ r′ pos)
     (rows-once n up low r pos) (rows-once n up′ low′ r′ pos) c
 
+-- layouts of n - 1 bytes fit it
+pub rule-fits : (n : ℕ) (up low up′ low′ : ℕ → ℕ) (ps : List ℕ) (pos : 1 ≤ n) (r : Rule n up low) (r′ : Rule n up′ low′)
+    (c : List·Permᴰ ps (range 1 n)) (s : Layouts) → length (s .left-bytes) ≡ pred n → length (s .right-bytes) ≡ pred n →
+    Fits (rule-fair n up low up′ low′ ps pos r r′ c) s
+unfolding rule-fair linked-fair
+rule-fits n up low up′ low′ ps pos r r′ c s p q left = p
+rule-fits n up low up′ low′ ps pos r r′ c s p q right = q
+
 -- with one link to each leaf, a row's own crossings both ways together are the leaf product
 pub linked-product : (n : ℕ) (t u : Tree) (ps : List ℕ) → List·Permᴰ (leaves t) (range 1 n) → List·Permᴰ (leaves u) (range 1 n) →
     List·Permᴰ ps (range 1 n) → (side : Side) (s : Layouts) →
