@@ -1,38 +1,17 @@
 -- A table filled with a list of rows: its rows are the list's, so that it is good or bad as they are.
 use Prim.Native.Nat.{ℕ, zero, suc, pred, _+_, _-_, _*_, _≤_, _<_}
-use mathlib.Core.Path.{_≡_, refl, ap, ap₂, _∙_}
+use mathlib.Core.Path.{_≡_, sym, ap, _∙_, subst}
 use mathlib.Core.Bool.{cond}
 use mathlib.Core.List.{List, _∷_}
 use native.Mathlib.Omega.{arith}
 use lib.ListN.{length, getD, set, take, drop, List·getD-append}
 use lib.Seq.{sets, sets-eq, length-sets, getD-set-same, getD-set-other, take-append-seam}
 use Rattle.tanglegram.specs.Lists.{range}
-use Rattle.tanglegram.specs.Tree.{used}
-use Rattle.trees.specs.Rows.{upper, lower, size}
-use Rattle.trees.specs.Rule.{first, breaks, badRow}
-
--- ---- rows that agree
-
-module _ (n : ℕ) (up low up′ low′ : ℕ → ℕ) (same : (i : ℕ) → 1 ≤ i → i < n → (up i ≡ up′ i) × (low i ≡ low′ i)) where
-  used-same : (m : ℕ) → m < n → used up low m ≡ used up′ low′ m
-  unfolding used
-  used-same zero h = refl
-  used-same (suc m) h =
-      let e = same (suc m) (omega arith) h in
-      ap₂ (λ a r. a ∷ r) (e .0) (ap₂ (λ b r. b ∷ r) (e .1) (used-same m (omega arith)))
-
-  breaks-same : (i : ℕ) → 1 ≤ i → i < n → breaks n up low i ≡ breaks n up′ low′ i
-  breaks-same i p q = let e = same i p q in rw (e .0, e .1, used-same (pred i) (omega arith)) refl
-
-  first-same : (k m : ℕ) → 1 ≤ k → k + m ≤ n → first (breaks n up low) (range k m) ≡ first (breaks n up′ low′) (range k m)
-  unfolding first range
-  first-same k zero p q = refl
-  first-same k (suc m) p q =
-      ap₂ (λ b r. cond b k r) (breaks-same k p (omega arith)) (first-same (suc k) m (omega arith) (omega arith))
-
-  pub bad-row-same : 1 ≤ n → badRow n up low ≡ badRow n up′ low′
-  unfolding badRow
-  bad-row-same p = first-same 1 (pred n) (omega arith) (omega arith)
+use Rattle.tanglegram.specs.Tree.{tree, Rule}
+use Rattle.trees.specs.Rows.{upper, lower, size, treeOf, Good}
+use Rattle.trees.specs.Rule.{badRow}
+use Rattle.trees.proofs.Objects.{object-cong}
+use Rattle.trees.proofs.Rule.{bad-row-cong, rule-cong}
 
 -- ---- a list stored from the first place on
 
@@ -58,7 +37,29 @@ module _ (l rs : List ℕ) (n : ℕ) (full : length l ≡ 1023) (e : length rs �
       (upper (set (sets l 0 rs) 1022 n) i ≡ upper rs i) × (lower (set (sets l 0 rs) 1022 n) i ≡ lower rs i)
   rows-filled i p q = (entry-filled (2 * pred i) (omega arith), entry-filled (2 * pred i + 1) (omega arith))
 
+  -- the table is bad where the rows are
   pub bad-row-filled : 1 ≤ n → let T = set (sets l 0 rs) 1022 n in badRow (size T) (upper T) (lower T) ≡ badRow n (upper rs) (lower rs)
   bad-row-filled p =
       let T = set (sets l 0 rs) 1022 n in
-      ap (λ k. badRow k (upper T) (lower T)) size-filled ∙ bad-row-same n (upper T) (lower T) (upper rs) (lower rs) rows-filled p
+      ap (λ k. badRow k (upper T) (lower T)) size-filled ∙ bad-row-cong n (upper T) (lower T) (upper rs) (lower rs) rows-filled
+
+  module _ (p : 1 ≤ n) (rule : Rule n (upper rs) (lower rs)) where
+    back : (i : ℕ) → 1 ≤ i → i < n → (upper rs i ≡ upper (set (sets l 0 rs) 1022 n) i) × (lower rs i ≡ lower (set (sets l 0 rs) 1022 n) i)
+    back i a b = let e = rows-filled i a b in (sym (e .0), sym (e .1))
+
+    filled-rule : Rule n (upper (set (sets l 0 rs) 1022 n)) (lower (set (sets l 0 rs) 1022 n))
+    filled-rule = let T = set (sets l 0 rs) 1022 n in rule-cong n (upper rs) (lower rs) (upper T) (lower T) back rule
+
+    -- rows that keep the rule make a good table
+    pub good-filled : Good (set (sets l 0 rs) 1022 n)
+    good-filled =
+        let T = set (sets l 0 rs) 1022 n in
+        let e = size-filled in
+        record { some = omega arith; most = omega arith; rule = subst (λ k. Rule k (upper T) (lower T)) (sym e) filled-rule }
+
+    -- and the table's tree is theirs
+    pub tree-filled : treeOf (set (sets l 0 rs) 1022 n) ≡ tree (upper rs) (lower rs) n
+    tree-filled =
+        let T = set (sets l 0 rs) 1022 n in
+        ap (λ k. tree (upper T) (lower T) k) size-filled
+        ∙ object-cong n (upper T) (lower T) (upper rs) (lower rs) rows-filled filled-rule (n + pred n) (omega arith)

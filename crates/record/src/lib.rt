@@ -1,5 +1,6 @@
 // The record: the bytes that are the device's whole state, the hold mark among them. Reading, refusing, packing, the hold.
 mod copying;
+mod filling;
 mod hold;
 mod links;
 pub mod reading;
@@ -7,6 +8,8 @@ pub mod refusal;
 mod testing;
 pub mod unpacking;
 
+pub use filling::fill_links;
+pub use filling::fill_table;
 pub use hold::set_hold;
 pub use reading::check;
 pub use reading::read;

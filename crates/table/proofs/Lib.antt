@@ -1,0 +1,3 @@
+pub mod AsItStands
+pub mod FarEnds
+pub mod Counts
