@@ -13,4 +13,6 @@ pub use filling::fill_table;
 pub use hold::set_hold;
 pub use reading::check;
 pub use reading::read;
+pub use reading::refusal_number;
+pub use reading::size_of;
 pub use unpacking::unpack;

@@ -1,6 +1,9 @@
 // Reading a record: its refusal, or what its heading says.
 ghost use mathlib.Core.Path.{_≡_};
+ghost use Prim.Native.Nat.{_≤_};
+ghost use lib.ListN.{length};
 ghost use Rattle.record.specs.Calls.{Checks, Reads};
+ghost use Rattle.record.specs.Fields.{sizeOf};
 ghost use Rattle.record.specs.Refusals.{refusal};
 use crate::copying::number;
 use crate::refusal::Refusal;
@@ -28,6 +31,14 @@ pub fn refusal_number(s: &[u8]) -> u16
         return k;
     }
     contents_number(s, number(s, 6))
+}
+
+// What an accepted record says n is.
+pub fn size_of(s: &[u8]) -> u16
+    requires { ⌜ 8 ≤ length (now s) ⌝ }
+    ensures { λ r. ⌜ r ≡ sizeOf (now (s .entry)) ⌝ }
+{
+    number(s, 6)
 }
 
 // Checks any bytes: the refusal of the record that they should be, with number 0 where there is none.

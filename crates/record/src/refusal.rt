@@ -25,5 +25,17 @@ pub const RIGHT_ROW: u16 = 8;
 pub const LINKS: u16 = 9;
 // a layout byte isn't 0 or 1
 pub const LAYOUT: u16 = 10;
+// the call frees a held side, runs while a side is held, or has a hand entry for a held side
+pub const HELD: u16 = 11;
+// the allowance is 0 or above 130,818
+pub const ALLOWANCE: u16 = 12;
+// the side isn't 1 (left) or 2 (right)
+pub const SIDE: u16 = 13;
 // an output buffer has too few places
 pub const ROOM: u16 = 14;
+// the row is 0 or above n-1
+pub const ROW: u16 = 15;
+// a proposed order has fewer than n entries, or its first n aren't a compatible order
+pub const ORDER: u16 = 16;
+// a hand list is longer than 1,024
+pub const HANDS: u16 = 17;

@@ -7,7 +7,7 @@ use native.Mathlib.Decide.{ℕ-discrete}
 use native.Mathlib.Omega.{arith}
 use borrow.Author.Tests.{eqb-true, eqb-false}
 use lib.Dec.{eqb}
-use lib.ListN.{length, take, drop}
+use lib.ListN.{length, take, drop, length-append}
 use lib.Seq.{sets, take-at}
 use Rattle.tanglegram.specs.Lists.{place}
 use Rattle.tanglegram.specs.Crossings.{to, back, end}
@@ -56,6 +56,11 @@ module _ (s : List ℕ) (n : ℕ) (g : Given s n) where
 
     pub order-one : OneToN n A
     order-one = rw order-taken (side-perm s n g side)
+
+    pub order-long : n ≤ length A
+    order-long =
+        let shown = orderOf (tableOf s) (layoutsOf s) side in
+        omega (arith, ap length e, length-append shown (drop n found), all-length n shown (side-perm s n g side))
 
   -- an array with the links in its first places
   module _ (A found : List ℕ) (long : n ≤ length found) (e : A ≡ sets found 0 (numbers s (linksAt n) n)) where

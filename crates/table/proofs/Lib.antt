@@ -1,3 +1,4 @@
 pub mod AsItStands
 pub mod FarEnds
 pub mod Counts
+pub mod Outcomes

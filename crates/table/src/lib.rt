@@ -1,3 +1,10 @@
 // The calls of document 01 on any bytes.
+pub mod answers;
 mod counting;
+mod showing;
 mod standing;
+
+pub use showing::count;
+pub use showing::entanglement;
+pub use showing::order;
+pub use showing::pairs;

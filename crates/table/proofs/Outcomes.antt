@@ -1,0 +1,110 @@
+-- From what a call found to its statement.
+use Prim.Native.Nat.{ℕ, _≤_, _<_}
+use mathlib.Core.Path.{_≡_, refl, sym, ap, _∙_, subst}
+use mathlib.Core.Logic.{_≢_}
+use mathlib.Core.Bool.{true, false}
+use mathlib.Core.List.{List, _++_}
+use native.Mathlib.Omega.{arith}
+use borrow.Author.Tests.{eq-eqb, ne-eqb, lt-ltb, le-ltb, ltb-false}
+use lib.Dec.{ltb}
+use lib.ListN.{length, take, drop}
+use lib.Seq.{sets}
+use Rattle.tanglegram.specs.Entanglement.{displacement, worst}
+use Rattle.tanglegram.specs.Run.{left, right}
+use Rattle.tanglegram.specs.Table.{orderOf}
+use Rattle.tanglegram.proofs.Lists.{all-length}
+use Rattle.record.specs.Fields.{sizeOf, parts}
+use Rattle.record.specs.Refusals.{orElse, refusal}
+use Rattle.record.specs.Calls.{refused, lent}
+use Rattle.record.specs.Meaning.{tableOf, layoutsOf}
+use Rattle.record.proofs.Acceptance.{accepted-sized, else-first, else-second, none-both}
+use Rattle.record.proofs.Heading.{none-first, not-no}
+use Rattle.record.proofs.Outcomes.{lent-refused, lent-accepted}
+use Rattle.record.proofs.Stores.{sets-front}
+use Rattle.table.specs.declared.answers.Entangled.the-variants.{Ratio, NoRatio, Refused}
+use Rattle.table.specs.Sides.{isSide, sideOf, Given}
+use Rattle.table.specs.Refusals.{ordering}
+use Rattle.table.specs.Calls.{shownOrder, shownCount, Orders, Counts, ratio, entangled, Entangles}
+use Rattle.table.proofs.AsItStands.{side-perm}
+use Rattle.table.proofs.FarEnds.{order-taken}
+
+-- ---- an accepted record
+
+module _ (s : List ℕ) where
+  pub long-enough : refusal s ≡ 0 → 8 ≤ length s
+  long-enough a = let z = accepted-sized s a in omega arith
+
+  pub given-size : {n : ℕ} → refusal s ≡ 0 → n ≡ sizeOf s → Given s n
+  given-size a e = subst (Given s) (sym e) (record { accepted = a; sized = accepted-sized s a })
+
+  -- ---- counts
+
+  pub count-refused : {k : ℕ} → k ≡ refusal s → k ≢ 0 → Counts s (record { refusal = record { number = k }; count = 0 })
+  count-refused {k} e h = record { answers = rw (← e, ne-eqb k 0 h) refl }
+
+  pub count-accepted : {r : ℕ} → refusal s ≡ 0 → r ≡ shownCount s → Counts s (record { refusal = record { number = 0 }; count = r })
+  count-accepted a e = record { answers = rw (a, e) refl }
+
+  -- ---- entanglement
+
+  pub entangled-refused : {k : ℕ} → k ≡ refusal s → k ≢ 0 → Entangles s (Refused (record { number = k }))
+  unfolding entangled
+  entangled-refused {k} e h = record { answers = rw (← e, ne-eqb k 0 h) refl }
+
+  module _ (a : refusal s ≡ 0) {n : ℕ} (e : n ≡ sizeOf s) where
+    pub entangled-none : n ≡ 1 → Entangles s NoRatio
+    unfolding entangled
+    entangled-none h = record { answers = rw (a, eq-eqb (sizeOf s) 1 (sym e ∙ h)) refl }
+
+    pub entangled-ratio : {d w : ℕ} → n ≢ 1 → d ≡ displacement n (parts s .links) (shownOrder s left) (shownOrder s right) → w ≡ worst n →
+        Entangles s (Ratio d w (ratio d w))
+    unfolding entangled
+    entangled-ratio h p q = record { answers = rw (a, ne-eqb (sizeOf s) 1 (λ z. h (e ∙ z)), p, q, e) refl }
+
+-- ---- a side's order
+
+module _ (s : List ℕ) (side : ℕ) (out : List ℕ) where
+  pub ordering-13 : isSide side ≡ false → 13 ≡ ordering s side out
+  unfolding ordering
+  ordering-13 h = rw h refl
+
+  module _ (good : isSide side ≡ true) where
+    pub ordering-record : refusal s ≢ 0 → refusal s ≡ ordering s side out
+    unfolding ordering
+    ordering-record h = rw good (sym (else-first (refusal s) _ h))
+
+    module _ (a : refusal s ≡ 0) where
+      pub ordering-14 : length out < sizeOf s → 14 ≡ ordering s side out
+      unfolding ordering
+      ordering-14 p = rw (good, a, lt-ltb (length out) (sizeOf s) p) refl
+
+      pub ordering-0 : sizeOf s ≤ length out → 0 ≡ ordering s side out
+      unfolding ordering
+      ordering-0 p = rw (good, a, le-ltb (length out) (sizeOf s) p) refl
+
+  -- where it is not refused
+  pub ordering-good : ordering s side out ≡ 0 → (isSide side ≡ true) × (refusal s ≡ 0) × (sizeOf s ≤ length out)
+  unfolding ordering
+  ordering-good e =
+      let t = none-first _ 13 _ (omega arith) e in
+      let u = none-both (refusal s) _ (t .1) in
+      let v = none-first (ltb (length out) (sizeOf s)) 14 0 (omega arith) (u .1) in
+      (not-no _ (t .0), u .0, ltb-false _ _ (v .0))
+
+  pub order-refused : {k : ℕ} → k ≡ ordering s side out → k ≢ 0 → Orders s side out (record { number = k }) out
+  order-refused {k} e h = record { answers = ap refused e; leaves = rw (← e) (lent-refused k (shownOrder s (sideOf side)) out h) }
+
+  pub order-accepted : (n : ℕ) (A found after : List ℕ) → ordering s side out ≡ 0 → n ≡ sizeOf s →
+      A ≡ shownOrder s (sideOf side) ++ drop n found → after ≡ sets out 0 (take n A) → Orders s side out (record { number = 0 }) after
+  order-accepted n A found after a e h w =
+      let good = ordering-good a in
+      let g = given-size s (good .1) e in
+      let taken = order-taken s n g (sideOf side) A found h in
+      let long = all-length n _ (side-perm s n g (sideOf side)) in
+      record {
+        answers = ap refused (sym a);
+        leaves =
+            w ∙ ap (sets out 0) taken
+            ∙ sets-front out (shownOrder s (sideOf side)) (omega (arith, good .2, long))
+            ∙ lent-accepted (ordering s side out) (shownOrder s (sideOf side)) out a;
+      }

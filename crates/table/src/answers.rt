@@ -1,0 +1,31 @@
+// What the calls answer. Each carries its refusal, and zero for every other number where it refuses.
+use record::refusal::Refusal;
+
+// A count of crossings.
+pub struct Counted {
+    pub refusal: Refusal,
+    pub count: u32,
+}
+
+// The counts before and after freeing a side.
+pub struct Freed {
+    pub refusal: Refusal,
+    pub before: u32,
+    pub after: u32,
+}
+
+// A run: the first and the last count, the turns taken, and 1 if it settled or 0 if not.
+pub struct Ran {
+    pub refusal: Refusal,
+    pub first: u32,
+    pub last: u32,
+    pub turns: u32,
+    pub settled: u32,
+}
+
+// Entanglement: D, W and D divided by W; or, for a single leaf, no ratio; or the refusal.
+pub enum Entangled {
+    Ratio(u32, u32, f64),
+    NoRatio,
+    Refused(Refusal),
+}

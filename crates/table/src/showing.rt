@@ -1,0 +1,108 @@
+// The calls that only show: a side's order, the count by seen places and pair by pair, the entanglement.
+ghost use mathlib.Core.Path.{_≡_};
+ghost use Rattle.table.specs.Calls.{Counts, Entangles, Orders};
+ghost use Rattle.table.specs.Refusals.{ordering};
+ghost use Rattle.table.specs.Sides.{isSide};
+use crate::answers::Counted;
+use crate::answers::Entangled;
+use crate::counting::crossings_paired;
+use crate::counting::crossings_seen;
+use crate::counting::displacement_of;
+use crate::standing::copy_order;
+use crate::standing::side_order;
+use record::refusal::ROOM;
+use record::refusal::Refusal;
+use record::refusal::SIDE;
+
+// Whether x is 1 or 2.
+pub fn is_side(x: u16) -> bool
+    ensures { λ r. ⌜ r ≡ isSide x ⌝ }
+{
+    if x == 1 {
+        return true;
+    }
+    x == 2
+}
+
+// The refusal of asking for a side's order, or 0.
+fn ordering_number(s: &[u8], side: u16, out: &[u16]) -> u16
+    ensures { λ r. ⌜ r ≡ ordering (now (s .entry)) side (now (out .entry)) ⌝ }
+{
+    if !is_side(side) {
+        return SIDE;
+    }
+    let k = record::refusal_number(s);
+    if k != 0 {
+        return k;
+    }
+    if out.len() < record::size_of(s) as usize {
+        return ROOM;
+    }
+    0
+}
+
+// The order of a side of any bytes, into a buffer's first places; or the refusal, and the buffer as it was.
+pub fn order(s: &[u8], side: u16, out: &mut [u16]) -> Refusal
+    ensures { λ r. ⌜ Orders (now (s .entry)) side (now (out .entry)) r (now (out .exit)) ⌝ }
+{
+    let k = ordering_number(s, side, out);
+    if k != 0 {
+        return Refusal { number: k };
+    }
+    let n = record::size_of(s);
+    let mut made = [0u16; 512];
+    side_order(s, n, side, &mut made);
+    copy_order(&made, n, out);
+    Refusal { number: 0 }
+}
+
+// The count of any bytes' crossings by seen places, or the refusal.
+pub fn count(s: &[u8]) -> Counted
+    ensures { λ r. ⌜ Counts (now (s .entry)) r ⌝ }
+{
+    let k = record::refusal_number(s);
+    if k != 0 {
+        return Counted {
+            refusal: Refusal { number: k },
+            count: 0,
+        };
+    }
+    Counted {
+        refusal: Refusal { number: 0 },
+        count: crossings_seen(s, record::size_of(s)),
+    }
+}
+
+// The same, pair by pair.
+pub fn pairs(s: &[u8]) -> Counted
+    ensures { λ r. ⌜ Counts (now (s .entry)) r ⌝ }
+{
+    let k = record::refusal_number(s);
+    if k != 0 {
+        return Counted {
+            refusal: Refusal { number: k },
+            count: 0,
+        };
+    }
+    Counted {
+        refusal: Refusal { number: 0 },
+        count: crossings_paired(s, record::size_of(s)),
+    }
+}
+
+// The entanglement of any bytes: D, W and their ratio, or no ratio for a single leaf, or the refusal.
+pub fn entanglement(s: &[u8]) -> Entangled
+    ensures { λ r. ⌜ Entangles (now (s .entry)) r ⌝ }
+{
+    let k = record::refusal_number(s);
+    if k != 0 {
+        return Entangled::Refused(Refusal { number: k });
+    }
+    let n = record::size_of(s);
+    if n == 1 {
+        return Entangled::NoRatio;
+    }
+    let d = displacement_of(s, n);
+    let w = crossings::worst_value(n as usize);
+    Entangled::Ratio(d, w, (d as f64) / (w as f64))
+}
