@@ -60,12 +60,14 @@ module _ (s : List ℕ) (n : ℕ) (g : Given s n) where
   pub linked-once : List·Permᴰ (parts s .links) (range 1 n)
   linked-once = subst (λ m. List·Permᴰ (parts s .links) (range 1 m)) says (links-perm s (g .accepted))
 
-  -- a side's order has the leaves 1 to n, each once
+  -- a side's tree has the leaves 1 to n, each once, and so has its order
+  pub side-leaves : (side : Side) → List·Permᴰ (leaves (tableOf s .tree side)) (range 1 n)
+  side-leaves side =
+      subst (λ t. List·Permᴰ (leaves t) (range 1 n)) (side-tree side)
+      (leaves-once n (upper (sideRows side)) (lower (sideRows side)) (side-rule side) (g .sized .some))
+
   pub side-perm : (side : Side) → List·Permᴰ (orderOf (tableOf s) (layoutsOf s) side) (range 1 n)
-  side-perm side =
-      List·Permᴰ·trans (order-perm (layout (layoutsOf s) side) (tableOf s .tree side))
-      (subst (λ t. List·Permᴰ (leaves t) (range 1 n)) (side-tree side)
-      (leaves-once n (upper (sideRows side)) (lower (sideRows side)) (side-rule side) (g .sized .some)))
+  side-perm side = List·Permᴰ·trans (order-perm (layout (layoutsOf s) side) (tableOf s .tree side)) (side-leaves side)
 
   -- a side's parts stand within the record
   pub rows-within : (side : Side) → rowsAt n side + 4 * (n - 1) ≤ length s

@@ -6,11 +6,11 @@ use lib.ListN.{length, take, drop}
 use Rattle.tanglegram.specs.Lists.{Each, Distinct, place, range}
 use Rattle.tanglegram.specs.Crossings.{pairs, inverted, count}
 use Rattle.tanglegram.specs.Entanglement.{sum, squared, displacement}
-use Rattle.tanglegram.specs.Run.{left, right}
+use Rattle.tanglegram.specs.Run.{Side, left, right}
 use Rattle.tanglegram.specs.Table.{orderOf, crossings}
 use Rattle.crossings.specs.Arrays.{at, Holds, filled, crossAt}
 use Rattle.crossings.proofs.Held.{filled-holds}
-use Rattle.crossings.proofs.Count.{far-apart, count-seen-left, count-pair-by-pair, displaced-is, ends-below}
+use Rattle.crossings.proofs.Count.{far-apart, near-apart, count-seen-left, count-pair-by-pair, displaced-is, ends-below}
 use Rattle.record.specs.Fields.{parts, partsOf}
 use Rattle.record.specs.Meaning.{tableOf, layoutsOf}
 use Rattle.table.specs.Sides.{Given, farPlace}
@@ -25,13 +25,18 @@ module _ (s : List ℕ) (n : ℕ) (g : Given s n) where
       ap (λ m. count m (parts s .links) (orderOf (tableOf s) (layoutsOf s) left) (orderOf (tableOf s) (layoutsOf s) right))
       (sym (g .sized .says))
 
+  -- the far places of a side's leaves are below 512, each another
+  pub far-apart-side : (side : Side) (far : List ℕ) → Holds n far (farPlace s side) →
+      Each (λ a. at far a < 512) (range 1 n) × Distinct (map (at far) (range 1 n))
+  far-apart-side left far h =
+      far-apart n (parts s .links) (orderOf (tableOf s) (layoutsOf s) right) far h (linked-once s n g) (side-perm s n g right)
+      (g .sized .most)
+  far-apart-side right far h =
+      near-apart n (parts s .links) (orderOf (tableOf s) (layoutsOf s) left) far (linked-once s n g) h (side-perm s n g left)
+      (g .sized .most)
+
   -- the far places of the left leaves, and an array with the left order
   module _ (far : List ℕ) (h : Holds n far (farPlace s left)) where
-    pub far-good : Each (λ a. at far a < 512) (range 1 n) × Distinct (map (at far) (range 1 n))
-    far-good =
-        far-apart n (parts s .links) (orderOf (tableOf s) (layoutsOf s) right) far h (linked-once s n g) (side-perm s n g right)
-        (g .sized .most)
-
     module _ (A found : List ℕ) (e : A ≡ orderOf (tableOf s) (layoutsOf s) left ++ drop n found) where
       pub seen-counts : pairs (inverted (at far)) (take n A) ≡ crossings (tableOf s) (layoutsOf s)
       seen-counts =

@@ -2,3 +2,4 @@ pub mod AsItStands
 pub mod FarEnds
 pub mod Counts
 pub mod Outcomes
+pub mod Relaying

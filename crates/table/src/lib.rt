@@ -3,6 +3,7 @@ pub mod answers;
 mod counting;
 mod showing;
 mod standing;
+mod taking_turns;
 
 pub use showing::count;
 pub use showing::entanglement;

@@ -11,7 +11,7 @@ ghost use Rattle.table.specs.Sides.{farPlace, Given, isSide, layoutAt, r
 ghost use Rattle.tanglegram.specs.Table.{orderOf};
 
 // Where a side's rows begin.
-fn rows_at(n: u16, side: u16) -> usize
+pub fn rows_at(n: u16, side: u16) -> usize
     requires { ⌜ 1 ≤ n ⌝ }
     ensures { λ r. ⌜ r ≡ rowsAt n (sideOf side) ⌝ }
 {

@@ -1,23 +1,24 @@
 -- Freeing gives the fewest crossings that any choice of the side's turnings gives, turns a row exactly if that makes its own
 -- crossings strictly fewer, and changes no byte where it gains nothing. For any weight.
-use Prim.Native.Nat.{ℕ, zero, suc, _+_, _≤_, _<_}
-use mathlib.Core.Path.{_≡_, refl, sym, ap, _∙_}
+use Prim.Native.Nat.{ℕ, zero, suc, pred, _+_, _≤_, _<_}
+use mathlib.Core.Path.{_≡_, refl, sym, ap, ap₂, _∙_}
 use mathlib.Core.Logic.{_↔_, _⊎_, inl, inr, ⊎-elim}
 use mathlib.Core.Bool.{Bool, true, false, cond, not, true≢false, false≢true}
-use mathlib.Core.List.{List, List·Permᴰ, Permᴰ·symm}
+use mathlib.Core.List.{List, [], _∷_, List·Permᴰ, Permᴰ·symm}
 use native.Mathlib.Omega.{arith}
 use borrow.Author.Tests.{ltb-true, ltb-false}
 use lib.Dec.{ltb}
-use lib.ListN.{length}
+use lib.ListN.{length, getD}
 use lib.Seq.{ext-getD}
 use Rattle.tanglegram.specs.Lists.{Each, range}
-use Rattle.tanglegram.specs.Tree.{Tree, leaf, fork, rows, EachRow, total}
+use Rattle.tanglegram.specs.Tree.{Tree, leaf, fork, leaves, rows, EachRow, total}
 use Rattle.tanglegram.specs.Order.{turned, mayChange, flip, byte, Choice}
 use Rattle.tanglegram.specs.Crossings.{between, own, ownAt, cost}
 use Rattle.tanglegram.specs.Freeing.{choose, chooseAt, freed}
-use Rattle.tanglegram.proofs.Lists.{each-append, each-mem, each-perm, mem-range, distinct-perm, range-distinct, range-each}
-use Rattle.tanglegram.proofs.Tree.{eachRow-map}
-use Rattle.tanglegram.proofs.Write.{length-write, write-written, write-same, written-cong, written-rows}
+use Rattle.tanglegram.proofs.Lists.{each-map, each-at, each-append, each-mem, each-perm, mem-range, distinct-perm, range-distinct, range-each}
+use Rattle.tanglegram.proofs.Tree.{eachRow-map, eachRow-rows, each-under}
+use Rattle.tanglegram.proofs.Sums.{across-ext}
+use Rattle.tanglegram.proofs.Write.{length-write, write-cong, write-written, write-same, written-cong, written-rows}
 
 -- ---- one row: its own crossings a as given and b turned over, its byte x
 
@@ -126,6 +127,19 @@ pub length-freed : (w : ℕ → ℕ → ℕ) (t : Tree) (lay : List ℕ) → len
 unfolding freed
 length-freed w t lay = length-write (chooseAt w lay) t lay
 
+-- freeing asks for the weight only at the tree's leaves
+pub freed-cong : (w w′ : ℕ → ℕ → ℕ) (P : ℕ → Type 0) (t : Tree) (lay : List ℕ) → ((a b : ℕ) → P a → P b → w a b ≡ w′ a b) →
+    Each P (leaves t) → freed w t lay ≡ freed w′ t lay
+unfolding freed
+freed-cong w w′ P t lay e p =
+    write-cong (chooseAt w lay) (chooseAt w′ lay) t lay
+    (eachRow-map t
+    (λ i u l h. ap₂ (λ a b. choose a b (byte lay i)) (same u l (h .0) (h .1)) (same l u (h .1) (h .0)))
+    (each-under P t p))
+  where
+    same : (u l : Tree) → Each P (leaves u) → Each P (leaves l) → between w u l ≡ between w′ u l
+    same u l x y = across-ext w w′ (leaves u) (leaves l) (each-map (leaves u) (λ a p. each-map (leaves l) (λ b q. e a b p q) y) x)
+
 module _ (w : ℕ → ℕ → ℕ) (t : Tree) (m : ℕ) (r : List·Permᴰ (rows t) (range 1 m)) (lay : List ℕ) (e : length lay ≡ m) where
   pub freed-chosen : EachRow (λ i u l. byte (freed w t lay) i ≡ chooseAt w lay i u l) t
   unfolding freed
@@ -165,3 +179,25 @@ module _ (w : ℕ → ℕ → ℕ) (t : Tree) (m : ℕ) (r : List·Permᴰ (rows
       let same = each-perm Same r (written-rows (chooseAt w lay) t new (freed w t lay) c freed-chosen) in
       ext-getD 0 new (freed w t lay) (f ∙ sym e ∙ sym (length-freed w t lay))
       (λ i h. each-mem Same same (mem-range (suc i) 1 m (omega arith) (omega arith)))
+
+  -- bytes that are 0 or 1 stay so
+  pub freed-bytes : Each (λ x. x ≤ 1) lay → Each (λ x. x ≤ 1) (freed w t lay)
+  freed-bytes b =
+      let Small : ℕ → Type 0 = λ i. byte (freed w t lay) i ≤ 1 in
+      let old : (i : ℕ) → byte lay i ≤ 1 = λ i. each-getD (pred i) lay b in
+      let at-rows = eachRow-map {Q = λ i u l. Small i} t (λ i u l h. ⊎-elim (λ e. rw e (flip-small (byte lay i))) (λ e. rw e (old i)) h) freed-either in
+      let all = each-perm Small r (eachRow-rows Small t at-rows) in
+      each-at (λ x. x ≤ 1) (freed w t lay)
+      (λ i h. each-mem Small all (mem-range (suc i) 1 m (omega arith) (omega (arith, length-freed w t lay))))
+    where
+      flip-small : (x : ℕ) → flip x ≤ 1
+      flip-small x = go (turned x)
+        where
+          go : (b : Bool) → cond b 0 1 ≤ 1
+          go true = omega arith
+          go false = omega arith
+
+      each-getD : (i : ℕ) (xs : List ℕ) → Each (λ x. x ≤ 1) xs → getD xs i 0 ≤ 1
+      each-getD i [] p = omega arith
+      each-getD zero (x ∷ xs) p = p .0
+      each-getD (suc i) (x ∷ xs) p = each-getD i xs (p .1)

@@ -123,6 +123,11 @@ mem-at [] i h = absurd (omega arith)
 mem-at (x ∷ xs) zero h = List·Memᴰ·head refl
 mem-at (x ∷ xs) (suc i) h = List·Memᴰ·tail (mem-at xs i (omega arith))
 
+-- what holds of the entry at each place holds of each entry
+pub each-at : (P : ℕ → Type 0) (xs : List ℕ) → ((i : ℕ) → i < length xs → P (getD xs i 0)) → Each P xs
+each-at P [] f = tt
+each-at P (x ∷ xs) f = (f 0 (omega arith), each-at P xs (λ i h. f (suc i) (omega arith)))
+
 -- no number is an entry of both of two lists that are apart
 pub apart-mem : (xs ys : List ℕ) → Each (λ x. Each (λ y. x ≢ y) ys) xs → (a : ℕ) → List·Memᴰ a xs → List·Memᴰ a ys → ⊥
 apart-mem xs ys d a m k = each-mem (λ y. a ≢ y) (each-mem (λ x. Each (λ y. x ≢ y) ys) d m) k refl

@@ -15,7 +15,7 @@ use lib.Dec.{leb}
 use lib.ListN.{length, length-append}
 use Rattle.tanglegram.specs.Lists.{Each, range}
 use Rattle.tanglegram.specs.Tree.{Tree, leaf, fork, leaves, rows, EachRow, used, deep, object, tree, Rule}
-use Rattle.tanglegram.proofs.Lists.{each-mem, each-map, each-split, mem-other, mem-perm, mem-range, take-out, range-snoc, length-perm, length-range}
+use Rattle.tanglegram.proofs.Lists.{each-mem, each-map, each-append, each-split, mem-other, mem-perm, mem-range, take-out, range-snoc, length-perm, length-range}
 
 -- ---- each row
 
@@ -28,6 +28,12 @@ pub eachRow-zip : {P Q R : ℕ → Tree → Tree → Type 0} (t : Tree) → ((i 
 eachRow-zip (leaf a) f p q = tt
 eachRow-zip (fork i u l) f p q =
     (f i u l (p .0) (q .0), eachRow-zip u f (p .1) (q .1), eachRow-zip l f (p .2) (q .2))
+
+-- what holds of each row's number
+pub eachRow-rows : (P : ℕ → Type 0) (t : Tree) → EachRow (λ i u l. P i) t → Each P (rows t)
+unfolding rows
+eachRow-rows P (leaf a) p = tt
+eachRow-rows P (fork i u l) p = (p .0, each-append P (rows u) (rows l) (eachRow-rows P u (p .1)) (eachRow-rows P l (p .2)))
 
 -- what holds of each leaf holds of the leaves under each row's children
 pub each-under : (P : ℕ → Type 0) (t : Tree) → Each P (leaves t) → EachRow (λ i u l. Each P (leaves u) × Each P (leaves l)) t

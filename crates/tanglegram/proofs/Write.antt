@@ -1,7 +1,7 @@
 -- Layouts written row by row: the layout that `write` makes has the byte that is asked for at each row of the tree, if no row
 -- stands twice and each has a place in the layout; and two layouts with these bytes agree at the tree's rows.
 use Prim.Native.Nat.{ℕ, pred, _≤_}
-use mathlib.Core.Path.{_≡_, refl, sym, _∙_}
+use mathlib.Core.Path.{_≡_, refl, sym, ap, ap₂, _∙_}
 use mathlib.Core.Logic.{_≢_}
 use mathlib.Core.List.{List, _++_}
 use native.Mathlib.Omega.{arith}
@@ -78,3 +78,10 @@ module _ (g : ℕ → Tree → Tree → ℕ) where
         v .0 ∙ sym (w .0),
         each-append P (rows u) (rows l) (written-rows u new new′ (v .1) (w .1)) (written-rows l new new′ (v .2) (w .2)),
       )
+
+-- what is written at each row decides
+pub write-cong : (g g′ : ℕ → Tree → Tree → ℕ) (t : Tree) (lay : List ℕ) → EachRow (λ i u l. g i u l ≡ g′ i u l) t → write g t lay ≡ write g′ t lay
+unfolding write
+write-cong g g′ (leaf a) lay e = refl
+write-cong g g′ (fork i u l) lay e =
+    ap₂ (λ t x. set t (pred i) x) (ap (write g l) (write-cong g g′ u lay (e .1)) ∙ write-cong g g′ l (write g′ u lay) (e .2)) (e .0)

@@ -192,7 +192,7 @@ module _ (T lay : List ℕ) where
     unfolding exchanged
     exchanged-size = let most = good .most in exchangedTo-past (pred (size T)) 1022 (omega arith)
 
-    exchanged-row : (i : ℕ) → 1 ≤ i → i < size T →
+    pub exchanged-row : (i : ℕ) → 1 ≤ i → i < size T →
         Exchanges (turned (byte lay i)) (upper T i) (lower T i) (upper (exchanged T lay) i) (lower (exchanged T lay) i)
     unfolding exchanged
     exchanged-row i p q =

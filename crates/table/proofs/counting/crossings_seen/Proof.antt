@@ -1,7 +1,7 @@
 use mathlib.Core.Path.{refl, _∙_}
 use Rattle.tanglegram.specs.Run.{left}
 use Rattle.table.proofs.FarEnds.{is-left, order-one}
-use Rattle.table.proofs.Counts.{far-good, seen-counts}
+use Rattle.table.proofs.Counts.{far-apart-side, seen-counts}
 use borrow.Author.Needs.{needs}
 use Rattle.table.proofs.counting.crossings_seen.Statement.{statement}
 use Rattle.table.proofs.counting.crossings_seen.Tie as tie
@@ -24,7 +24,7 @@ count-seen-requires : tie.Need-count-seen-requires
 count-seen-requires c κs =
     let v = c .before .before in
     let g = v .before .before .before .before .before .pre in
-    ((g .sized .most, order-one _ _ g left _ _ (v .before .before .side-order .ensures)), far-good _ _ g _ (v .far-places .ensures .0))
+    ((g .sized .most, order-one _ _ g left _ _ (v .before .before .side-order .ensures)), far-apart-side _ _ g left _ (v .far-places .ensures .0))
 
 -- src/counting.rt:13:1
 returns : tie.Need-returns

@@ -1,0 +1,69 @@
+-- A row in a table with a layout applied: as it stands it has its own crossings at its byte, and turned over those at the other byte.
+-- So the test whether turning it over gains there is the test by which freeing chooses its byte.
+use Prim.Native.Nat.{ℕ, _+_, _*_, _≤_, _<_}
+use mathlib.Core.Path.{_≡_, sym, ap, ap₂, _∙_}
+use mathlib.Core.Bool.{Bool, true, false, cond}
+use mathlib.Core.List.{List, List·Permᴰ}
+use native.Mathlib.Omega.{arith}
+use lib.Dec.{ltb}
+use Rattle.tanglegram.specs.Tree.{leaves}
+use Rattle.tanglegram.specs.Order.{byte, turned, flip}
+use Rattle.tanglegram.specs.Crossings.{between, own}
+use Rattle.tanglegram.specs.Freeing.{choose, chooseAt}
+use Rattle.tanglegram.proofs.Order.{order-perm}
+use Rattle.tanglegram.proofs.Sums.{across-perm}
+use Rattle.tanglegram.proofs.Freeing.{own-flip}
+use Rattle.trees.specs.Rows.{upper, lower, size, objectOf, Good}
+use Rattle.trees.specs.Exchange.{exchanged}
+use Rattle.trees.proofs.Exchanged.{Exchanges, exchanged-size, exchanged-good, exchanged-row, exchanged-object}
+use Rattle.freeing.specs.Row.{Apart, standing, turnedOver, gain, byteAfter}
+
+-- a row's own crossings at the other byte
+own-other : (a b x : ℕ) → own a b (flip x) ≡ cond (turned x) a b
+own-other a b x = go (turned x) (own-flip a b x)
+  where
+    go : (t : Bool) → cond t b a + own a b (flip x) ≡ a + b → own a b (flip x) ≡ cond t a b
+    go true h = omega arith
+    go false h = omega arith
+
+-- the table with the layout applied is one whose rows can be walked and counted, as the table as given is
+pub exchanged-ready : (T lay far W : List ℕ) → Good T → W ≡ exchanged T lay → Apart (size T) far →
+    Good W × (size W ≡ size T) × Apart (size W) far
+exchanged-ready T lay far W good e a =
+    rw e (exchanged-good T lay good, exchanged-size T lay good, rw (exchanged-size T lay good) a)
+
+module _ (w : ℕ → ℕ → ℕ) (T lay : List ℕ) (good : Good T) where
+  -- an object has the same leaves, in another order
+  leaves-exchanged : (k : ℕ) → k < 2 * size T → List·Permᴰ (leaves (objectOf (exchanged T lay) k)) (leaves (objectOf T k))
+  leaves-exchanged k h = rw (exchanged-object T lay good k h) (order-perm lay (objectOf T k))
+
+  -- so two objects have the same crossings
+  between-exchanged : (k j : ℕ) → k < 2 * size T → j < 2 * size T →
+      between w (objectOf (exchanged T lay) k) (objectOf (exchanged T lay) j) ≡ between w (objectOf T k) (objectOf T j)
+  between-exchanged k j p q = across-perm w (leaves-exchanged k p) (leaves-exchanged j q)
+
+  -- and so have the two that stand for them, exchanged where t
+  either-exchanged : (t : Bool) (u l u′ l′ : ℕ) → Exchanges t u l u′ l′ → u < 2 * size T → l < 2 * size T →
+      between w (objectOf (exchanged T lay) u′) (objectOf (exchanged T lay) l′)
+      ≡ cond t (between w (objectOf T l) (objectOf T u)) (between w (objectOf T u) (objectOf T l))
+  either-exchanged true u l u′ l′ e p q = rw (e .0, e .1) (between-exchanged l u q p)
+  either-exchanged false u l u′ l′ e p q = rw (e .0, e .1) (between-exchanged u l p q)
+
+  module _ (i : ℕ) (p : 1 ≤ i) (q : i < size T) where
+    standing-own : standing w (exchanged T lay) i ≡ own (standing w T i) (turnedOver w T i) (byte lay i)
+    standing-own =
+        let c = good .rule i p q in
+        either-exchanged (turned (byte lay i)) (upper T i) (lower T i) _ _ (exchanged-row T lay good i p q) (omega arith) (omega arith)
+
+    turned-own : turnedOver w (exchanged T lay) i ≡ own (standing w T i) (turnedOver w T i) (flip (byte lay i))
+    turned-own =
+        let c = good .rule i p q in
+        let e = exchanged-row T lay good i p q in
+        either-exchanged (turned (byte lay i)) (lower T i) (upper T i) _ _ (e .1, e .0) (omega arith) (omega arith)
+        ∙ sym (own-other (standing w T i) (turnedOver w T i) (byte lay i))
+
+    -- the byte that freeing chooses
+    pub byte-chosen : byteAfter (byte lay i) (gain w (exchanged T lay) i)
+        ≡ chooseAt w lay i (objectOf T (upper T i)) (objectOf T (lower T i))
+    unfolding choose
+    byte-chosen = ap (byteAfter (byte lay i)) (ap₂ ltb turned-own standing-own)

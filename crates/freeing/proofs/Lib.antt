@@ -1,0 +1,5 @@
+pub mod Under
+pub mod Written
+pub mod Counted
+pub mod Chosen
+pub mod Freed

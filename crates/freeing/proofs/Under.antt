@@ -1,0 +1,62 @@
+-- The leaves under a row's two children, for each row of a tree and for each row of a table by its number: how many they are, and
+-- what holds of all leaves holds of them.
+use Prim.Native.Nat.{ℕ, pred, _+_, _≤_, _<_}
+use mathlib.Core.Path.{_≡_, refl}
+use mathlib.Core.Logic.{_≢_}
+use mathlib.Core.List.{List, [], _∷_, map, map-append}
+use native.Mathlib.Omega.{arith}
+use lib.ListN.{length, length-append}
+use Rattle.tanglegram.specs.Lists.{Each, Pairwise, Distinct}
+use Rattle.tanglegram.specs.Tree.{Tree, leaf, fork, leaves, rows, EachRow}
+use Rattle.tanglegram.proofs.Lists.{each-append, each-mem, each-perm, mem-range, pairwise-split}
+use Rattle.tanglegram.proofs.Tree.{eachRow-zip, rows-each, rows-once}
+use Rattle.trees.specs.Rows.{upper, lower, size, objectOf, treeOf, Good}
+
+-- ---- each row of a tree
+
+pub length-under : (t : Tree) (m : ℕ) → length (leaves t) ≤ m → EachRow (λ i u l. length (leaves u) + length (leaves l) ≤ m) t
+unfolding leaves
+length-under (leaf a) m h = tt
+length-under (fork i u l) m h =
+    let e = length-append (leaves u) (leaves l) in
+    (omega arith, length-under u m (omega arith), length-under l m (omega arith))
+
+-- leaves that are different under f
+pub distinct-under : (f : ℕ → ℕ) (t : Tree) → Distinct (map f (leaves t)) →
+    EachRow (λ i u l. Distinct (map f (leaves u)) × Distinct (map f (leaves l))) t
+unfolding leaves
+distinct-under f (leaf a) d = tt
+distinct-under f (fork i u l) d =
+    let s = pairwise-split (λ x y. x ≢ y) (map f (leaves u)) (map f (leaves l)) (rw map-append at d) in
+    ((s .0, s .1), distinct-under f u (s .0), distinct-under f l (s .1))
+
+-- ---- entries under a function
+
+each-unmapped : (P : ℕ → Type 0) (f : ℕ → ℕ) (xs : List ℕ) → Each P (map f xs) → Each (λ x. P (f x)) xs
+each-unmapped P f [] e = tt
+each-unmapped P f (x ∷ xs) e = (e .0, each-unmapped P f xs (e .1))
+
+pub pairwise-unmapped : (R : ℕ → ℕ → Type 0) (f : ℕ → ℕ) (xs : List ℕ) → Pairwise R (map f xs) → Pairwise (λ x y. R (f x) (f y)) xs
+pairwise-unmapped R f [] r = tt
+pairwise-unmapped R f (x ∷ xs) r = (each-unmapped (R (f x)) f xs (r .0), pairwise-unmapped R f xs (r .1))
+
+-- ---- a row by its number
+
+each-row : (P : ℕ → Type 0) (t : Tree) → EachRow (λ i u l. P i) t → Each P (rows t)
+unfolding rows
+each-row P (leaf a) p = tt
+each-row P (fork i u l) p = (p .0, each-append P (rows u) (rows l) (each-row P u (p .1)) (each-row P l (p .2)))
+
+-- what holds at each row of a good table's tree holds of each row by its number
+pub row-at : (T : List ℕ) → Good T → (P : ℕ → Tree → Tree → Type 0) → EachRow P (treeOf T) →
+    (i : ℕ) → 1 ≤ i → i < size T → P i (objectOf T (upper T i)) (objectOf T (lower T i))
+row-at T good P all i p q =
+    let n = size T in
+    let some = good .some in
+    let Here : ℕ → Type 0 = λ j. P j (objectOf T (upper T j)) (objectOf T (lower T j)) in
+    let Made : ℕ → Tree → Tree → Type 0 = λ j u l. (u ≡ objectOf T (upper T j)) × (l ≡ objectOf T (lower T j)) in
+    let made = rows-each n (upper T) (lower T) (good .rule) Made (λ j x y. (refl, refl)) (n + pred n) (n + pred n)
+    (omega arith) (omega arith) in
+    let here = each-row Here (treeOf T) (eachRow-zip (treeOf T) (λ j u l e h. rw (← e .0, ← e .1) h) made all) in
+    each-mem Here (each-perm Here (rows-once n (upper T) (lower T) (good .rule) some) here)
+    (mem-range i 1 (pred n) p (omega arith))

@@ -1,0 +1,29 @@
+-- One row of a side that is freed: what is asked of the links, whether turning the row over gains, and its byte afterwards.
+use Prim.Native.Nat.{ℕ, _<_}
+use mathlib.Core.Bool.{Bool, cond, _&&_}
+use mathlib.Core.List.{List, map}
+use lib.Dec.{ltb}
+use Rattle.tanglegram.specs.Lists.{Each, Distinct, range}
+use Rattle.tanglegram.specs.Order.{mayChange, flip}
+use Rattle.tanglegram.specs.Crossings.{between}
+use Rattle.trees.specs.Rows.{upper, lower, objectOf}
+use Rattle.crossings.specs.Arrays.{at}
+
+-- The links of leaves 1 to n end at places below 512, each at another, by the array of these places.
+abbrev pub Apart : ℕ → List ℕ → Type 0
+Apart n far = Each (λ a. at far a < 512) (range 1 n) × Distinct (map (at far) (range 1 n))
+
+-- The own crossings of row i of a table as it stands, upper's leaves before lower's, and turned over.
+abbrev pub standing : (ℕ → ℕ → ℕ) → List ℕ → ℕ → ℕ
+standing w T i = between w (objectOf T (upper T i)) (objectOf T (lower T i))
+
+abbrev pub turnedOver : (ℕ → ℕ → ℕ) → List ℕ → ℕ → ℕ
+turnedOver w T i = between w (objectOf T (lower T i)) (objectOf T (upper T i))
+
+-- Turning row i over makes them strictly fewer.
+abbrev pub gain : (ℕ → ℕ → ℕ) → List ℕ → ℕ → Bool
+gain w T i = ltb (turnedOver w T i) (standing w T i)
+
+-- A row's byte after freeing, from its present byte and whether turning it over gains. (`choose` of `tanglegram`, by its test.)
+abbrev pub byteAfter : ℕ → Bool → ℕ
+byteAfter x gains = cond (mayChange x && gains) (flip x) x

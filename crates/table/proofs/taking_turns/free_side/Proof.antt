@@ -1,0 +1,124 @@
+use mathlib.Core.Path.{refl, sym, ap, ap₂, subst, _∙_}
+use native.Mathlib.Omega.{arith}
+use lib.ListN.{length}
+use Rattle.tanglegram.specs.Crossings.{inverted}
+use Rattle.tanglegram.specs.Freeing.{freed}
+use Rattle.tanglegram.specs.Table.{layout, put}
+use Rattle.crossings.specs.Arrays.{at}
+use Rattle.freeing.specs.Row.{Apart}
+use Rattle.record.specs.Meaning.{layoutsOf, relaid}
+use Rattle.table.specs.Sides.{sideOf}
+use Rattle.table.proofs.AsItStands.{rows-within, layout-within, part-layout, length-part, filled-good, filled-size, filled-tree}
+use Rattle.table.proofs.Counts.{far-apart-side}
+use Rattle.table.proofs.Relaying.{relaid-mid, freed-held}
+use borrow.Author.Needs.{needs}
+use Rattle.table.proofs.taking_turns.free_side.Statement.{statement}
+use Rattle.table.proofs.taking_turns.free_side.Tie as tie
+use Rattle.table.proofs.taking_turns.free_side.Reads as reads
+use Rattle.table.proofs.taking_turns.free_side.Lts as lts
+use Rattle.freeing.proofs.free_rows.Reads as free-rows-reads
+use Rattle.record.proofs.fill_table.Reads as fill-table-reads
+use Rattle.table.proofs.standing.far_places.Reads as far-places-reads
+use Rattle.table.proofs.standing.layout_at.Reads as layout-at-reads
+use Rattle.table.proofs.standing.rows_at.Reads as rows-at-reads
+
+-- src/taking_turns.rt:20:5
+far-places-requires : tie.Need-far-places-requires
+far-places-requires c κs = search needs
+
+-- src/taking_turns.rt:22:27
+rows-at-requires : tie.Need-rows-at-requires
+rows-at-requires c κs = search needs
+
+-- src/taking_turns.rt:22:5
+fill-table-requires : tie.Need-fill-table-requires
+fill-table-requires c κs =
+    let z = c .before .before .before .before .before .before .before in
+    let g = z .pre .0 in
+    (g .sized .some, g .sized .most, rw (c .before .rows-at .ensures) (rows-within _ _ g (sideOf (z .args .side))), refl)
+
+-- src/taking_turns.rt:23:9
+layout-at-requires : tie.Need-layout-at-requires
+layout-at-requires c κs = search needs
+
+-- src/taking_turns.rt:24:22
+sub-to : tie.Need-sub-to
+sub-to c = search needs
+
+-- src/taking_turns.rt:24:14
+add-to : tie.Need-add-to
+add-to c =
+    let z = c .before .before .before .before .before .before .before .before .before in
+    let h = layout-within _ _ (z .pre .0) (sideOf (z .args .side)) in
+    omega (arith, c .layout-at .ensures)
+
+-- src/taking_turns.rt:25:36
+sub-free-rows : tie.Need-sub-free-rows
+sub-free-rows c = search needs
+
+-- src/taking_turns.rt:25:36
+part-free-rows-start : tie.Need-part-free-rows-start
+part-free-rows-start c = search needs
+
+-- src/taking_turns.rt:25:36
+part-free-rows-end : tie.Need-part-free-rows-end
+part-free-rows-end c =
+    let z = c .before .before .before .before .before .before .before .before .before .before .before in
+    let h = layout-within _ _ (z .pre .0) (sideOf (z .args .side)) in
+    omega (arith, c .before .before .layout-at .ensures)
+
+-- src/taking_turns.rt:25:5
+free-rows-requires : tie.Need-free-rows-requires
+free-rows-requires c κs =
+    let v = c .before .before .before in
+    let w = v .before .before .before .before .before in
+    let z = w .before .before .before .before in
+    let g = z .pre .0 in
+    let side = sideOf (z .args .side) in
+    let h = v .before .before .before .rows-at .ensures in
+    let e = v .before .fill-table .ensures in
+    let k = filled-size _ _ g side _ _ refl _ h e in
+    let n = part-layout _ _ g side (v .layout-at .ensures) in (
+      filled-good _ _ g side _ _ refl _ h e,
+      (
+        omega (arith, ap length n, length-part _ _ g side, g .sized .some),
+        subst (λ m. Apart m (w .far-places .last .1 .1 .1 .0)) (sym k) (far-apart-side _ _ g side _ (w .far-places .ensures .0)),
+      ),
+    )
+
+-- src/taking_turns.rt:12:1
+same-length : tie.Need-same-length
+same-length c = search needs
+
+-- src/taking_turns.rt:12:1
+returns : tie.Need-returns
+returns c =
+    let u = c .before .before in
+    let v = u .before .before .before .before in
+    let w = v .before .before .before .before .before in
+    let z = w .before .before .before .before in
+    let g = z .pre .0 in
+    let side = sideOf (z .args .side) in
+    let s = z .args .s .now in
+    let tree = filled-tree _ _ g side _ _ refl _ (v .before .before .before .rows-at .ensures) (v .before .fill-table .ensures) in
+    let lay = part-layout _ _ g side (v .layout-at .ensures) in
+    let freed-lay =
+    u .free-rows .ensures ∙ ap₂ (freed (inverted (at (w .far-places .last .1 .1 .1 .0)))) tree lay ∙ freed-held _ _ g side _ (layout (layoutsOf s) side) (w .far-places .ensures .0) in
+    relaid-mid _ _ g side _ (v .layout-at .ensures) ∙ ap (λ l. relaid s (put side l (layoutsOf s))) freed-lay
+
+pub free-side-spec : {M : Type 1} → statement M
+free-side-spec =
+    tie.close
+    (tie.spec
+    far-places-requires
+    rows-at-requires
+    fill-table-requires
+    layout-at-requires
+    sub-to
+    add-to
+    sub-free-rows
+    part-free-rows-start
+    part-free-rows-end
+    free-rows-requires
+    same-length
+    returns)
