@@ -1,22 +1,24 @@
 -- A row in a table with a layout applied: as it stands it has its own crossings at its byte, and turned over those at the other byte.
--- So the test whether turning it over gains there is the test by which freeing chooses its byte.
-use Prim.Native.Nat.{ℕ, _+_, _*_, _≤_, _<_}
+-- So the test whether turning it over gains there is the test by which freeing chooses its byte, and all rows so make the freed layout.
+use Prim.Native.Nat.{ℕ, pred, _+_, _*_, _≤_, _<_}
 use mathlib.Core.Path.{_≡_, sym, ap, ap₂, _∙_}
 use mathlib.Core.Bool.{Bool, true, false, cond}
 use mathlib.Core.List.{List, List·Permᴰ}
 use native.Mathlib.Omega.{arith}
 use lib.Dec.{ltb}
+use lib.ListN.{length}
 use Rattle.tanglegram.specs.Tree.{leaves}
 use Rattle.tanglegram.specs.Order.{byte, turned, flip}
 use Rattle.tanglegram.specs.Crossings.{between, own}
-use Rattle.tanglegram.specs.Freeing.{choose, chooseAt}
+use Rattle.tanglegram.specs.Freeing.{choose, chooseAt, freed}
 use Rattle.tanglegram.proofs.Order.{order-perm}
 use Rattle.tanglegram.proofs.Sums.{across-perm}
-use Rattle.tanglegram.proofs.Freeing.{own-flip}
-use Rattle.trees.specs.Rows.{upper, lower, size, objectOf, Good}
+use Rattle.tanglegram.proofs.Tree.{rows-each, rows-once}
+use Rattle.tanglegram.proofs.Freeing.{own-flip, freed-unique}
+use Rattle.trees.specs.Rows.{upper, lower, size, objectOf, treeOf, Good}
 use Rattle.trees.specs.Exchange.{exchanged}
 use Rattle.trees.proofs.Exchanged.{Exchanges, exchanged-size, exchanged-good, exchanged-row, exchanged-object}
-use Rattle.freeing.specs.Row.{Apart, standing, turnedOver, gain, byteAfter}
+use Rattle.freeing.specs.Row.{Apart, standing, turnedOver, gain, byteAfter, Frees}
 
 -- a row's own crossings at the other byte
 own-other : (a b x : ℕ) → own a b (flip x) ≡ cond (turned x) a b
@@ -26,11 +28,16 @@ own-other a b x = go (turned x) (own-flip a b x)
     go true h = omega arith
     go false h = omega arith
 
--- the table with the layout applied is one whose rows can be walked and counted, as the table as given is
-pub exchanged-ready : (T lay far W : List ℕ) → Good T → W ≡ exchanged T lay → Apart (size T) far →
-    Good W × (size W ≡ size T) × Apart (size W) far
-exchanged-ready T lay far W good e a =
-    rw e (exchanged-good T lay good, exchanged-size T lay good, rw (exchanged-size T lay good) a)
+-- a table with a layout applied can be walked and counted as the table as given can
+module _ (T lay W : List ℕ) (is : W ≡ exchanged T lay) (good : Good T) where
+  pub laid-good : Good W
+  laid-good = rw is (exchanged-good T lay good)
+
+  pub laid-size : (m : ℕ) → m ≡ size T → m ≡ size W
+  laid-size m e = rw (is, exchanged-size T lay good) e
+
+  pub laid-apart : (far : List ℕ) → Apart (size T) far → Apart (size W) far
+  laid-apart far a = rw (is, exchanged-size T lay good) a
 
 module _ (w : ℕ → ℕ → ℕ) (T lay : List ℕ) (good : Good T) where
   -- an object has the same leaves, in another order
@@ -63,7 +70,20 @@ module _ (w : ℕ → ℕ → ℕ) (T lay : List ℕ) (good : Good T) where
         ∙ sym (own-other (standing w T i) (turnedOver w T i) (byte lay i))
 
     -- the byte that freeing chooses
-    pub byte-chosen : byteAfter (byte lay i) (gain w (exchanged T lay) i)
+    byte-chosen : byteAfter (byte lay i) (gain w (exchanged T lay) i)
         ≡ chooseAt w lay i (objectOf T (upper T i)) (objectOf T (lower T i))
     unfolding choose
     byte-chosen = ap (byteAfter (byte lay i)) (ap₂ ltb turned-own standing-own)
+
+  -- so freeing by the table with the layout applied gives the freed layout
+  pub frees-freed : (W new : List ℕ) → length lay + 1 ≡ size T → W ≡ exchanged T lay → Frees w W lay new → new ≡ freed w (treeOf T) lay
+  frees-freed W new enough e frees =
+      let f = rw e at frees in
+      let n = size T in
+      let some = good .some in
+      let long = f .long in
+      let chosen : (i : ℕ) → 1 ≤ i → i < n → byte new i ≡ chooseAt w lay i (objectOf T (upper T i)) (objectOf T (lower T i)) =
+      λ i p q. f .bytes i p (rw (exchanged-size T lay good) q) ∙ byte-chosen i p q in
+      freed-unique w (treeOf T) (pred n) (rows-once n (upper T) (lower T) (good .rule) some) lay (omega arith) new (omega arith)
+      (rows-each n (upper T) (lower T) (good .rule) (λ i u l. byte new i ≡ chooseAt w lay i u l) chosen
+      (n + pred n) (n + pred n) (omega arith) (omega arith))

@@ -89,13 +89,11 @@ module _ (W : List ℕ) (good : Good W) where
   pub second-made : (i : ℕ) → 1 ≤ i → i < size W → (1 ≤ secondEntry W i) × (secondEntry W i < 2 * size W)
   second-made i p q = let c = good .rule i p q in rw (second-entry W i p) (omega arith)
 
-  pub entries-fit : (i : ℕ) → 1 ≤ i → i < size W →
+  pub both-fit : (i : ℕ) → 1 ≤ i → i < size W →
       length (leaves (objectOf W (firstEntry W i))) + length (leaves (objectOf W (secondEntry W i))) ≤ 512
-  entries-fit i p q =
+  both-fit i p q =
       let most = good .most in
-      let a = ap (λ k. length (leaves (objectOf W k))) (first-entry W i p) in
-      let b = ap (λ k. length (leaves (objectOf W k))) (second-entry W i p) in
-      omega (arith, row-length i p q)
+      rw (first-entry W i p, second-entry W i p) (omega (arith, row-length i p q))
 
   -- ---- and counted
 

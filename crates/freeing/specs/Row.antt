@@ -1,12 +1,14 @@
--- One row of a side that is freed: what is asked of the links, whether turning the row over gains, and its byte afterwards.
-use Prim.Native.Nat.{ℕ, _<_}
+-- The rows of a side that is freed: what is asked of the links, whether turning a row over gains, and its byte afterwards.
+use Prim.Native.Nat.{ℕ, _≤_, _<_}
+use mathlib.Core.Path.{_≡_}
 use mathlib.Core.Bool.{Bool, cond, _&&_}
 use mathlib.Core.List.{List, map}
 use lib.Dec.{ltb}
+use lib.ListN.{length}
 use Rattle.tanglegram.specs.Lists.{Each, Distinct, range}
-use Rattle.tanglegram.specs.Order.{mayChange, flip}
+use Rattle.tanglegram.specs.Order.{byte, mayChange, flip}
 use Rattle.tanglegram.specs.Crossings.{between}
-use Rattle.trees.specs.Rows.{upper, lower, objectOf}
+use Rattle.trees.specs.Rows.{upper, lower, size, objectOf}
 use Rattle.crossings.specs.Arrays.{at}
 
 -- The links of leaves 1 to n end at places below 512, each at another, by the array of these places.
@@ -24,6 +26,11 @@ turnedOver w T i = between w (objectOf T (lower T i)) (objectOf T (upper T i))
 abbrev pub gain : (ℕ → ℕ → ℕ) → List ℕ → ℕ → Bool
 gain w T i = ltb (turnedOver w T i) (standing w T i)
 
--- A row's byte after freeing, from its present byte and whether turning it over gains. (`choose` of `tanglegram`, by its test.)
+-- A row's byte after freeing, from its present byte and whether turning it over gains: `choose` of `tanglegram` is this at its test.
 abbrev pub byteAfter : ℕ → Bool → ℕ
 byteAfter x gains = cond (mayChange x && gains) (flip x) x
+
+-- Each row has its byte after freeing, by its own crossings in a table.
+pub record Frees (w : ℕ → ℕ → ℕ) (T old new : List ℕ) : Type 0 where
+  pub long : length new ≡ length old
+  pub bytes : (i : ℕ) → 1 ≤ i → i < size T → byte new i ≡ byteAfter (byte old i) (gain w T i)

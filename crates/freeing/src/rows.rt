@@ -8,7 +8,7 @@ ghost use Rattle.tanglegram.specs.Order.{flip};
 ghost use Rattle.tanglegram.specs.Freeing.{freed};
 ghost use Rattle.trees.specs.Rows.{Good, size, treeOf};
 ghost use Rattle.crossings.specs.Arrays.{at};
-ghost use Rattle.freeing.specs.Row.{Apart, gain, byteAfter};
+ghost use Rattle.freeing.specs.Row.{Apart, gain, byteAfter, Frees};
 use crossings::count_across;
 use trees::exchange;
 use trees::is_turned;
@@ -28,9 +28,9 @@ fn freed_byte(x: u8, gain: bool) -> u8
     if gain { flipped(x) } else { x }
 }
 
-// Whether a row of a table has strictly fewer own crossings turned over than as it stands. The leaves under its two
-// entries are at most 512, so there are at most 256 * 256 = 65,536 pairs of one from each, and as many crossings: a pair
-// crosses in exactly one of the two arrangements.
+// Whether a row of a table has strictly fewer own crossings turned over than as it stands. Each pair of a leaf under
+// its first entry and one under its second crosses in just one of the two arrangements. The leaves are at most 512
+// together, so the pairs are at most 65,536, and so are the crossings.
 fn gains(walked: &[u16; 1023], far: &[u16; 512], row: usize, buf: &mut [u16; 512]) -> bool
     requires { ⌜ Good (now walked) ⌝ }
     requires { ⌜ (1 ≤ row) × (row < size (now walked)) ⌝ }
@@ -49,6 +49,23 @@ fn gains(walked: &[u16; 1023], far: &[u16; 512], row: usize, buf: &mut [u16; 512
     pairs - count < count
 }
 
+// Gives each row its byte after freeing, by its own crossings in a table that has the layout applied.
+fn free_each(walked: &[u16; 1023], far: &[u16; 512], lay: &mut [u8])
+    requires { ⌜ Good (now walked) ⌝ }
+    requires { ⌜ length (now lay) + 1 ≡ size (now walked) ⌝ }
+    requires { ⌜ Apart (size (now walked)) (now far) ⌝ }
+    ensures { λ _. ⌜ Frees (inverted (at (now (far .entry)))) (now (walked .entry)) (now (lay .entry))
+        (now (lay .exit)) ⌝ }
+{
+    let mut buf = [0u16; 512];
+    let mut row = 1;
+    while row <= lay.len() {
+        let gain = gains(walked, far, row, &mut buf);
+        lay[row - 1] = freed_byte(lay[row - 1], gain);
+        row += 1;
+    }
+}
+
 // Frees the side whose rows are tab as given and whose layout is lay: turns each row over, from its present byte,
 // exactly if that makes its own crossings strictly fewer, by the far places of the leaves' links.
 pub fn free_rows(tab: &[u16; 1023], far: &[u16; 512], lay: &mut [u8])
@@ -60,11 +77,5 @@ pub fn free_rows(tab: &[u16; 1023], far: &[u16; 512], lay: &mut [u8])
 {
     let mut walked = *tab;
     exchange(&mut walked, lay);
-    let mut buf = [0u16; 512];
-    let mut row = 1;
-    while row <= lay.len() {
-        let gain = gains(&walked, far, row, &mut buf);
-        lay[row - 1] = freed_byte(lay[row - 1], gain);
-        row += 1;
-    }
+    free_each(&walked, far, lay);
 }

@@ -1,5 +1,5 @@
 -- What each call answers, and what it leaves in what was lent to it, for every input.
-use Prim.Native.Nat.{ℕ}
+use Prim.Native.Nat.{ℕ, _-_}
 use mathlib.Core.Path.{_≡_}
 use mathlib.Core.Bool.{Bool, true, false, cond}
 use mathlib.Core.List.{List, [], _∷_}
@@ -10,7 +10,7 @@ use lib.ListN.{take}
 use Rattle.tanglegram.specs.Lists.{bit}
 use Rattle.tanglegram.specs.Crossings.{count}
 use Rattle.tanglegram.specs.Entanglement.{displacement, worst}
-use Rattle.tanglegram.specs.Run.{Side, left, right, End, run}
+use Rattle.tanglegram.specs.Run.{Side, left, right, End, more, go, run}
 use Rattle.tanglegram.specs.Order.{turnRow}
 use Rattle.tanglegram.specs.Table.{Layouts, layout, put, orderOf, crossings, free}
 use Rattle.record.specs.declared.refusal.Refusal.{Refusal}
@@ -99,6 +99,17 @@ pub record Frees (s : List ℕ) (side : ℕ) (answer : Freed) (s′ : List ℕ) 
 
 abbrev pub ranTo : List ℕ → ℕ → End Layouts
 ranTo s allowance = run (crossings (tableOf s)) (free (tableOf s)) allowance (layoutsOf s)
+
+-- The turns of a run after the first, which led to s.
+abbrev pub onward : List ℕ → ℕ → End Layouts
+onward s allowance = more (go (crossings (tableOf s)) (free (tableOf s)) (allowance - 1) right (layoutsOf s))
+
+-- A run of s that ends with e: its last count, its turns, whether it settled, and the record afterwards.
+pub record Turned (s : List ℕ) (e : End Layouts) (last turns settled : ℕ) (s′ : List ℕ) : Type 0 where
+  pub last-count : last ≡ crossings (tableOf s) (e .last)
+  pub taken : turns ≡ e .turns
+  pub ended : settled ≡ bit (e .settled)
+  pub leaves : s′ ≡ relaid s (e .last)
 
 pub record Runs (s : List ℕ) (allowance : ℕ) (answer : Ran) (s′ : List ℕ) : Type 0 where
   pub answers : answer ≡ record {

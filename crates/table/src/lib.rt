@@ -2,6 +2,7 @@
 pub mod answers;
 mod counting;
 mod showing;
+mod sides;
 mod standing;
 mod taking_turns;
 
@@ -9,3 +10,5 @@ pub use showing::count;
 pub use showing::entanglement;
 pub use showing::order;
 pub use showing::pairs;
+pub use taking_turns::free;
+pub use taking_turns::run;

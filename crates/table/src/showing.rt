@@ -2,27 +2,17 @@
 ghost use mathlib.Core.Path.{_≡_};
 ghost use Rattle.table.specs.Calls.{Counts, Entangles, Orders};
 ghost use Rattle.table.specs.Refusals.{ordering};
-ghost use Rattle.table.specs.Sides.{isSide};
 use crate::answers::Counted;
 use crate::answers::Entangled;
 use crate::counting::crossings_paired;
 use crate::counting::crossings_seen;
 use crate::counting::displacement_of;
+use crate::sides::is_side;
 use crate::standing::copy_order;
 use crate::standing::side_order;
 use record::refusal::ROOM;
 use record::refusal::Refusal;
 use record::refusal::SIDE;
-
-// Whether x is 1 or 2.
-pub fn is_side(x: u16) -> bool
-    ensures { λ r. ⌜ r ≡ isSide x ⌝ }
-{
-    if x == 1 {
-        return true;
-    }
-    x == 2
-}
 
 // The refusal of asking for a side's order, or 0.
 fn ordering_number(s: &[u8], side: u16, out: &[u16]) -> u16

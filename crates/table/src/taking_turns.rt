@@ -1,19 +1,31 @@
 // Freeing a side of an accepted record over n leaves, and taking turns.
 ghost use mathlib.Core.Bool.{true};
 ghost use mathlib.Core.Path.{_≡_};
+ghost use Prim.Native.Nat.{_≤_};
 ghost use Rattle.record.specs.Meaning.{layoutsOf, relaid, tableOf};
+ghost use Rattle.table.specs.Calls.{Frees, onward, ranTo, Runs, Turned};
+ghost use Rattle.table.specs.Refusals.{freeing, running};
 ghost use Rattle.table.specs.Sides.{Given, isSide, sideOf};
-ghost use Rattle.tanglegram.specs.Table.{free};
+ghost use Rattle.tanglegram.specs.Table.{free as freedBy};
+use crate::answers::Freed;
+use crate::answers::Ran;
+use crate::counting::crossings_seen;
+use crate::sides::is_held;
+use crate::sides::is_side;
 use crate::standing::far_places;
 use crate::standing::layout_at;
 use crate::standing::rows_at;
+use record::refusal::ALLOWANCE;
+use record::refusal::HELD;
+use record::refusal::Refusal;
+use record::refusal::SIDE;
 
 // Frees a side: its layout bytes in the record, and no other byte.
 pub fn free_side(s: &mut [u8], n: u16, side: u16)
     requires { ⌜ Given (now s) n ⌝ }
     requires { ⌜ isSide side ≡ true ⌝ }
     ensures { λ _. ⌜
-        now (s .exit) ≡ relaid (now (s .entry)) (free (tableOf (now (s .entry))) (sideOf side) (layoutsOf (now (s .entry))))
+        now (s .exit) ≡ relaid (now (s .entry)) (freedBy (tableOf (now (s .entry))) (sideOf side) (layoutsOf (now (s .entry))))
         ⌝ }
 {
     let mut far = [0u16; 512];
@@ -23,4 +35,144 @@ pub fn free_side(s: &mut [u8], n: u16, side: u16)
     let from = layout_at(n, side);
     let to = from + (n as usize - 1);
     freeing::free_rows(&tab, &far, &mut s[from..to]);
+}
+
+// The refusal of freeing a side, or 0.
+fn freeing_number(s: &[u8], side: u16) -> u16
+    ensures { λ r. ⌜ r ≡ freeing (now (s .entry)) side ⌝ }
+{
+    if !is_side(side) {
+        return SIDE;
+    }
+    let k = record::refusal_number(s);
+    if k != 0 {
+        return k;
+    }
+    if is_held(s[5], side) {
+        return HELD;
+    }
+    0
+}
+
+// Frees a side of any bytes: the counts before and after, and the layout bytes of that side; or the refusal, and no byte.
+pub fn free(s: &mut [u8], side: u16) -> Freed
+    ensures { λ r. ⌜ Frees (now (s .entry)) side r (now (s .exit)) ⌝ }
+{
+    let k = freeing_number(s, side);
+    if k != 0 {
+        return Freed {
+            refusal: Refusal { number: k },
+            before: 0,
+            after: 0,
+        };
+    }
+    let n = record::size_of(s);
+    let before = crossings_seen(s, n);
+    free_side(s, n, side);
+    Freed {
+        refusal: Refusal { number: 0 },
+        before: before,
+        after: crossings_seen(s, n),
+    }
+}
+
+// What a run's turns come to.
+struct Turns {
+    last: u32,
+    turns: u32,
+    settled: u32,
+}
+
+// Takes the turns after the first, the right next, until one gains nothing or the allowance is used up.
+fn go_on(s: &mut [u8], n: u16, allowance: u32) -> Turns
+    requires { ⌜ Given (now s) n ⌝ }
+    requires { ⌜ 1 ≤ allowance ⌝ }
+    ensures { λ r. ⌜
+        Turned (now (s .entry)) (onward (now (s .entry)) allowance) (r .last) (r .turns) (r .settled) (now (s .exit))
+        ⌝ }
+{
+    let mut last = crossings_seen(s, n);
+    let mut turns: u32 = 1;
+    let mut side: u16 = 2;
+    while turns < allowance {
+        let before = last;
+        free_side(s, n, side);
+        last = crossings_seen(s, n);
+        turns += 1;
+        if before <= last {
+            return Turns {
+                last: last,
+                turns: turns,
+                settled: 1,
+            };
+        }
+        side = 3 - side;
+    }
+    Turns {
+        last: last,
+        turns: turns,
+        settled: 0,
+    }
+}
+
+// Takes turns, the left first.
+fn take_turns(s: &mut [u8], n: u16, allowance: u32) -> Turns
+    requires { ⌜ Given (now s) n ⌝ }
+    requires { ⌜ 1 ≤ allowance ⌝ }
+    ensures { λ r. ⌜
+        Turned (now (s .entry)) (ranTo (now (s .entry)) allowance) (r .last) (r .turns) (r .settled) (now (s .exit))
+        ⌝ }
+{
+    free_side(s, n, 1);
+    go_on(s, n, allowance)
+}
+
+// The refusal of a run, or 0.
+fn running_number(s: &[u8], allowance: u32) -> u16
+    ensures { λ r. ⌜ r ≡ running (now (s .entry)) allowance ⌝ }
+{
+    if allowance == 0 {
+        return ALLOWANCE;
+    }
+    if 130818 < allowance {
+        return ALLOWANCE;
+    }
+    let k = record::refusal_number(s);
+    if k != 0 {
+        return k;
+    }
+    if is_held(s[5], 1) {
+        return HELD;
+    }
+    if is_held(s[5], 2) {
+        return HELD;
+    }
+    0
+}
+
+// Runs any bytes under an allowance: the first and the last count, the turns taken, whether it settled, and the layout
+// bytes after exactly that many freeings; or the refusal, and no byte.
+pub fn run(s: &mut [u8], allowance: u32) -> Ran
+    ensures { λ r. ⌜ Runs (now (s .entry)) allowance r (now (s .exit)) ⌝ }
+{
+    let k = running_number(s, allowance);
+    if k != 0 {
+        return Ran {
+            refusal: Refusal { number: k },
+            first: 0,
+            last: 0,
+            turns: 0,
+            settled: 0,
+        };
+    }
+    let n = record::size_of(s);
+    let first = crossings_seen(s, n);
+    let t = take_turns(s, n, allowance);
+    Ran {
+        refusal: Refusal { number: 0 },
+        first: first,
+        last: t.last,
+        turns: t.turns,
+        settled: t.settled,
+    }
 }

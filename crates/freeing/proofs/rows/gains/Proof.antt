@@ -1,10 +1,13 @@
 -- `rows::gains` meets its contract: the leaves under the row's two entries are walked one after the other, their crossings are
 -- counted, and those turned over are the pairs less these.
 use Prim.Native.Nat.{_-_}
-use mathlib.Core.Path.{_∙_}
+use mathlib.Core.Path.{_≡_}
 use native.Mathlib.Omega.{arith}
-use Rattle.freeing.proofs.Counted.{Walked, fewer, row-walked, first-made, second-made, entries-fit}
 use borrow.Author.Needs.{needs}
+use Rattle.tanglegram.specs.Crossings.{inverted}
+use Rattle.crossings.specs.Arrays.{at}
+use Rattle.freeing.specs.Row.{standing}
+use Rattle.freeing.proofs.Counted.{Walked, fewer, row-walked, first-made, second-made, both-fit}
 use Rattle.freeing.proofs.rows.gains.Statement.{statement}
 use Rattle.freeing.proofs.rows.gains.Tie as tie
 
@@ -36,18 +39,22 @@ walk-requires : tie.Need-walk-requires
 walk-requires c κs =
     let s = c .before .before .before in
     let W = s .args .walked .now in
+    let i = s .args .row in
     let r = s .pre .1 .0 in
-    let n = entries-fit W (s .pre .0) (s .args .row) (r .0) (r .1) in
-    (s .pre .0, (first-made W (s .pre .0) (s .args .row) (r .0) (r .1), omega arith))
+    let a = first-made W (s .pre .0) i (r .0) (r .1) in
+    let b = second-made W (s .pre .0) i (r .0) (r .1) in
+    (s .pre .0, (omega arith, omega (arith, both-fit W (s .pre .0) i (r .0) (r .1))))
 
 walk-requires-2 : tie.Need-walk-requires-2
 walk-requires-2 c κs =
     let s = c .before .before .before .before .before in
     let W = s .args .walked .now in
+    let i = s .args .row in
     let r = s .pre .1 .0 in
-    let n = entries-fit W (s .pre .0) (s .args .row) (r .0) (r .1) in
+    let a = first-made W (s .pre .0) i (r .0) (r .1) in
+    let b = second-made W (s .pre .0) i (r .0) (r .1) in
     let m = c .before .walk .ensures .0 in
-    (s .pre .0, (second-made W (s .pre .0) (s .args .row) (r .0) (r .1), omega arith))
+    (s .pre .0, (omega arith, omega (arith, both-fit W (s .pre .0) i (r .0) (r .1))))
 
 -- what stands in the buffer after both walks
 walked : (c : tie.After-walk2) →
@@ -77,16 +84,19 @@ count-across-requires c κs =
     let w = walked (c .before) in
     ((w .fits, omega (arith, w .fits, w .long)), (w .linked, w .distinct))
 
+-- what is counted are the row's own crossings as it stands
+counted : (c : tie.After-count-across) →
+    let a = c .before .before .before .before .before .before .before .before .args in
+    c .count-across .result ≡ standing (inverted (at (a .far .now))) (a .walked .now) (a .row)
+counted c = rw (c .count-across .ensures) (walked (c .before .before) .crossings)
+
 sub-result : tie.Need-sub-result
-sub-result c =
-    let w = walked (c .before .before) in
-    omega (arith, c .count-across .ensures ∙ w .crossings, w .both-ways)
+sub-result c = omega (arith, counted c, walked (c .before .before) .both-ways)
 
 returns : tie.Need-returns
 returns c =
     let w = walked (c .before .before) in
-    let own = c .count-across .ensures ∙ w .crossings in
-    (fewer (c .count-across .result) _ _ _ own (w .both-ways), w .long)
+    (fewer (c .count-across .result) _ _ _ (counted c) (w .both-ways), w .long)
 
 pub gains-spec : {M : Type 1} → statement M
 gains-spec =

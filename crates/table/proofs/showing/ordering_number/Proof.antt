@@ -8,7 +8,7 @@ use Rattle.table.proofs.showing.ordering_number.Reads as reads
 use Rattle.table.proofs.showing.ordering_number.Lts as lts
 use Rattle.record.proofs.refusal_number.Reads as refusal-number-reads
 use Rattle.record.proofs.size_of.Reads as size-of-reads
-use Rattle.table.proofs.showing.is_side.Reads as is-side-reads
+use Rattle.table.proofs.sides.is_side.Reads as is-side-reads
 
 -- src/showing.rt:31:9
 is-side-requires : tie.Need-is-side-requires

@@ -1,10 +1,10 @@
 use mathlib.Core.Path.{refl}
 use borrow.Author.Tests.{eq-eqb, ne-eqb}
 use Rattle.table.specs.Sides.{isSide}
-use Rattle.table.proofs.showing.is_side.Statement.{statement}
-use Rattle.table.proofs.showing.is_side.Tie as tie
-use Rattle.table.proofs.showing.is_side.Reads as reads
-use Rattle.table.proofs.showing.is_side.Lts as lts
+use Rattle.table.proofs.sides.is_side.Statement.{statement}
+use Rattle.table.proofs.sides.is_side.Tie as tie
+use Rattle.table.proofs.sides.is_side.Reads as reads
+use Rattle.table.proofs.sides.is_side.Lts as lts
 
 -- src/showing.rt:22:9
 returns : tie.Need-returns

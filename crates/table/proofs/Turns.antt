@@ -1,0 +1,152 @@
+-- Freeing a side and running, as calls: their refusals test by test, and from what they found to their statements.
+use Prim.Native.Nat.{ℕ, zero, suc, _≤_, _<_}
+use mathlib.Core.Path.{_≡_, refl, sym, ap, _∙_, subst}
+use mathlib.Core.Logic.{_≢_}
+use mathlib.Core.Bool.{Bool, true, false, cond, _||_, true≢false}
+use mathlib.Core.List.{List}
+use native.Mathlib.Omega.{arith}
+use borrow.Author.Tests.{eq-eqb, ne-eqb, lt-ltb, le-ltb}
+use lib.Dec.{eqb}
+use Rattle.tanglegram.specs.Run.{Side, left, right}
+use Rattle.tanglegram.specs.Table.{crossings, free}
+use Rattle.record.specs.Fields.{holdOf, sizeOf}
+use Rattle.record.specs.Refusals.{refusal}
+use Rattle.record.specs.Meaning.{tableOf, layoutsOf, relaid}
+use Rattle.record.proofs.Acceptance.{else-first, none-both}
+use Rattle.record.proofs.Heading.{none-first, not-no}
+use Rattle.table.specs.Sides.{isSide, sideOf, holds, Given}
+use Rattle.table.specs.Refusals.{freeing, noAllowance, running}
+use Rattle.table.specs.Calls.{shownCount, freedLayouts, Frees, ranTo, Turned, Runs}
+use Rattle.table.proofs.Relaying.{freed-given, freed-table, freed-layouts}
+
+-- ---- what a hold holds
+
+pub both-held : (side : Side) → holds 66 side ≡ true
+unfolding holds
+both-held left = refl
+both-held right = refl
+
+or-none : (b : Bool) → (b || false) ≡ b
+or-none true = refl
+or-none false = refl
+
+pub left-held : (hold : ℕ) → hold ≢ 66 → eqb hold 76 ≡ holds hold left
+unfolding holds
+left-held hold h = rw (ne-eqb hold 66 h) (sym (or-none (eqb hold 76)))
+
+pub right-held : (hold : ℕ) → hold ≢ 66 → eqb hold 82 ≡ holds hold right
+unfolding holds
+right-held hold h = rw (ne-eqb hold 66 h) (sym (or-none (eqb hold 82)))
+
+-- ---- the refusals
+
+module _ (s : List ℕ) (side : ℕ) where
+  pub freeing-13 : isSide side ≡ false → 13 ≡ freeing s side
+  unfolding freeing
+  freeing-13 h = rw h refl
+
+  module _ (good : isSide side ≡ true) where
+    pub freeing-record : refusal s ≢ 0 → refusal s ≡ freeing s side
+    unfolding freeing
+    freeing-record h = rw good (sym (else-first (refusal s) _ h))
+
+    module _ (a : refusal s ≡ 0) where
+      pub freeing-11 : holds (holdOf s) (sideOf side) ≡ true → 11 ≡ freeing s side
+      unfolding freeing
+      freeing-11 h = rw (good, a, h) refl
+
+      pub freeing-0 : holds (holdOf s) (sideOf side) ≡ false → 0 ≡ freeing s side
+      unfolding freeing
+      freeing-0 h = rw (good, a, h) refl
+
+  -- where it is not refused, the side is one, the record is accepted, and the side is not held
+  pub freeing-good : freeing s side ≡ 0 → (isSide side ≡ true) × (refusal s ≡ 0) × (holds (holdOf s) (sideOf side) ≡ false)
+  unfolding freeing
+  freeing-good e =
+      let t = none-first _ 13 _ (omega arith) e in
+      let u = none-both (refusal s) _ (t .1) in
+      let v = none-first (holds (holdOf s) (sideOf side)) 11 0 (omega arith) (u .1) in
+      (not-no _ (t .0), u .0, v .0)
+
+  pub free-refused : {k : ℕ} → k ≡ freeing s side → k ≢ 0 → Frees s side (record { refusal = record { number = k }; before = 0; after = 0 }) s
+  free-refused {k} e h = record { answers = rw (← e, ne-eqb k 0 h) refl; leaves = rw (← e, ne-eqb k 0 h) refl }
+
+  -- the count of a record whose side was freed
+  pub freed-count : {n : ℕ} → Given s n → shownCount (relaid s (freedLayouts s side)) ≡ crossings (tableOf s) (freedLayouts s side)
+  freed-count {n} g =
+      ap (λ T. crossings T (layoutsOf (relaid s (freedLayouts s side)))) (freed-table s n g (sideOf side))
+      ∙ ap (crossings (tableOf s)) (freed-layouts s n g (sideOf side))
+
+  pub free-accepted : {n b a : ℕ} {s′ : List ℕ} → Given s n → freeing s side ≡ 0 → b ≡ shownCount s →
+      s′ ≡ relaid s (freedLayouts s side) → a ≡ shownCount s′ →
+      Frees s side (record { refusal = record { number = 0 }; before = b; after = a }) s′
+  free-accepted g z p e q = record { answers = rw (z, p, q ∙ ap shownCount e ∙ freed-count g) refl; leaves = e ∙ rw z refl }
+
+-- a record is given again after a side was freed
+pub given-after : (s : List ℕ) (n : ℕ) → Given s n → (side : Side) {s′ : List ℕ} → s′ ≡ relaid s (free (tableOf s) side (layoutsOf s)) →
+    Given s′ n
+given-after s n g side e = subst (λ r. Given r n) (sym e) (freed-given s n g side)
+
+-- ---- a run's refusals
+
+module _ (s : List ℕ) (allowance : ℕ) where
+  pub running-12 : noAllowance allowance ≡ true → 12 ≡ running s allowance
+  unfolding running
+  running-12 h = rw h refl
+
+  module _ (good : noAllowance allowance ≡ false) where
+    pub running-record : refusal s ≢ 0 → refusal s ≡ running s allowance
+    unfolding running
+    running-record h = rw good (sym (else-first (refusal s) _ h))
+
+    module _ (a : refusal s ≡ 0) where
+      pub running-11-left : holds (holdOf s) left ≡ true → 11 ≡ running s allowance
+      unfolding running
+      running-11-left h = rw (good, a, h) refl
+
+      module _ (free-left : holds (holdOf s) left ≡ false) where
+        pub running-11-right : holds (holdOf s) right ≡ true → 11 ≡ running s allowance
+        unfolding running
+        running-11-right h = rw (good, a, free-left, h) refl
+
+        pub running-0 : holds (holdOf s) right ≡ false → 0 ≡ running s allowance
+        unfolding running
+        running-0 h = rw (good, a, free-left, h) refl
+
+  -- where it is not refused, the allowance is one, the record is accepted, and neither side is held
+  pub running-good : running s allowance ≡ 0 →
+      (noAllowance allowance ≡ false) × (refusal s ≡ 0) × (holds (holdOf s) left ≡ false) × (holds (holdOf s) right ≡ false)
+  unfolding running
+  running-good e =
+      let t = none-first _ 12 _ (omega arith) e in
+      let u = none-both (refusal s) _ (t .1) in
+      let v = none-first (holds (holdOf s) left) 11 _ (omega arith) (u .1) in
+      let w = none-first (holds (holdOf s) right) 11 0 (omega arith) (v .1) in
+      (t .0, u .0, v .0, w .0)
+
+  pub run-refused : {k : ℕ} → k ≡ running s allowance → k ≢ 0 →
+      Runs s allowance (record { refusal = record { number = k }; first = 0; last = 0; turns = 0; settled = 0 }) s
+  run-refused {k} e h = record { answers = rw (← e, ne-eqb k 0 h) refl; leaves = rw (← e, ne-eqb k 0 h) refl }
+
+  pub run-accepted : {f l t w : ℕ} {s′ : List ℕ} → running s allowance ≡ 0 → f ≡ shownCount s →
+      Turned s (ranTo s allowance) l t w s′ →
+      Runs s allowance (record { refusal = record { number = 0 }; first = f; last = l; turns = t; settled = w }) s′
+  run-accepted z p e = record { answers = rw (z, p, e .last-count, e .taken, e .ended) refl; leaves = e .leaves ∙ rw z refl }
+
+-- an allowance that is none, and one that is
+pub none-allowed : (k : ℕ) → k ≡ 0 → noAllowance k ≡ true
+unfolding noAllowance
+none-allowed k e = rw (eq-eqb k 0 e) refl
+
+pub too-many : (k : ℕ) → k ≢ 0 → 130818 < k → noAllowance k ≡ true
+unfolding noAllowance
+too-many k h p = rw (ne-eqb k 0 h, lt-ltb 130818 k p) refl
+
+pub allowed : (k : ℕ) → k ≢ 0 → k ≤ 130818 → noAllowance k ≡ false
+unfolding noAllowance
+allowed k h p = rw (ne-eqb k 0 h, le-ltb 130818 k p) refl
+
+pub allowance-some : (k : ℕ) → noAllowance k ≡ false → 1 ≤ k
+unfolding noAllowance
+allowance-some zero e = absurd (true≢false e)
+allowance-some (suc k) e = omega arith
