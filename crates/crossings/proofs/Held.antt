@@ -22,7 +22,7 @@ filled-holds f n xs out e = record { each = range-each (λ a. at xs a ≡ f a) 1
     found a l u = let s = suc-pred a l in ap (λ ys. at ys a) e ∙ filled-at f n out (pred a) (omega (arith, s)) ∙ ap f s
 
 -- different under f, where g undoes it
-distinct-map : (f g : ℕ → ℕ) (xs : List ℕ) → Each (λ a. g (f a) ≡ a) xs → Distinct xs → Distinct (map f xs)
+pub distinct-map : (f g : ℕ → ℕ) (xs : List ℕ) → Each (λ a. g (f a) ≡ a) xs → Distinct xs → Distinct (map f xs)
 distinct-map f g [] e d = tt
 distinct-map f g (x ∷ xs) e d = (apart xs (e .1) (d .0), distinct-map f g xs (e .1) (d .1))
   where

@@ -10,10 +10,10 @@ use lib.ListN.{length, getD, take, drop, length-append, length-drop, take-append
 use lib.Seq.{length-take-le, take-all, getD-take, drop-drop, take-at, drop-at}
 use Rattle.tanglegram.specs.Lists.{range}
 use Rattle.tanglegram.specs.Tree.{Rule}
-use Rattle.tanglegram.specs.Run.{left, right}
-use Rattle.tanglegram.specs.Table.{Layouts}
+use Rattle.tanglegram.specs.Run.{Side, left, right}
+use Rattle.tanglegram.specs.Table.{Layouts, layout}
 use Rattle.tanglegram.proofs.Lists.{map-ext, range-each}
-use Rattle.tanglegram.proofs.Table.{Fair, Fits, rule-fair, rule-fits}
+use Rattle.tanglegram.proofs.Table.{Fair, Fits, rule-fair, rule-fits, rule-rows}
 use Rattle.trees.specs.Rows.{upper, lower}
 use Rattle.trees.proofs.Rule.{bad-row-none}
 use Rattle.record.specs.Fields.{two, numbers, bytes, holdOf, sizeOf, rightAt, linksAt, leftLayoutAt, rightLayoutAt, lengthOf}
@@ -71,6 +71,14 @@ module _ (s : List ℕ) (a : refusal s ≡ 0) where
       let r = parts s .right-rows in
       rule-fits (sizeOf s) (upper l) (lower l) (upper r) (lower r) (parts s .links) (accepted-sized s a .some) left-rule right-rule links-perm
       new (omega arith) (omega arith)
+
+  pub fits-long : (new : Layouts) → Fits accepted-fair new → (side : Side) → length (layout new side) ≡ sizeOf s - 1
+  unfolding partsOf accepted-fair
+  fits-long new f side =
+      let l = parts s .left-rows in
+      let r = parts s .right-rows in
+      let z = accepted-sized s a .some in
+      f side ∙ rule-rows (sizeOf s) (upper l) (lower l) (upper r) (lower r) (parts s .links) z left-rule right-rule links-perm side ∙ omega arith
 
   pub accepted-fits : Fits accepted-fair (layoutsOf s)
   accepted-fits = layouts-fit (layoutsOf s) length-left length-right

@@ -86,7 +86,7 @@ module _ (s : List ℕ) (n : ℕ) (g : Given s n) where
   -- ---- freeing keeps a record accepted
 
   module _ (side : Side) where
-    freed-long : (length (free (tableOf s) side (layoutsOf s) .left-bytes) ≡ sizeOf s - 1) ×
+    pub freed-long : (length (free (tableOf s) side (layoutsOf s) .left-bytes) ≡ sizeOf s - 1) ×
         (length (free (tableOf s) side (layoutsOf s) .right-bytes) ≡ sizeOf s - 1)
     freed-long = go side
       where

@@ -136,6 +136,11 @@ unfolding rule-fair linked-fair
 rule-fits n up low up′ low′ ps pos r r′ c s p q left = p
 rule-fits n up low up′ low′ ps pos r r′ c s p q right = q
 
+pub rule-rows : (n : ℕ) (up low up′ low′ : ℕ → ℕ) (ps : List ℕ) (pos : 1 ≤ n) (r : Rule n up low) (r′ : Rule n up′ low′)
+    (c : List·Permᴰ ps (range 1 n)) (side : Side) → rule-fair n up low up′ low′ ps pos r r′ c .row-count side ≡ pred n
+unfolding rule-fair linked-fair
+rule-rows n up low up′ low′ ps pos r r′ c side = refl
+
 -- with one link to each leaf, a row's own crossings both ways together are the leaf product
 pub linked-product : (n : ℕ) (t u : Tree) (ps : List ℕ) → List·Permᴰ (leaves t) (range 1 n) → List·Permᴰ (leaves u) (range 1 n) →
     List·Permᴰ ps (range 1 n) → (side : Side) (s : Layouts) →

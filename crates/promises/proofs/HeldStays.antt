@@ -1,0 +1,102 @@
+-- A refused call changes no byte; freeing and runs change layout bytes only, and never a held side's.
+use Prim.Native.Nat.{ℕ, _-_}
+use mathlib.Core.Path.{_≡_, refl, sym, ap, _∙_, subst}
+use mathlib.Core.Logic.{_≢_}
+use mathlib.Core.Bool.{Bool, true, false, cond, true≢false}
+use mathlib.Core.List.{List, _++_}
+use native.Mathlib.Omega.{arith}
+use borrow.Author.Tests.{eqb-true, eqb-false, ne-eqb}
+use lib.Dec.{eqb}
+use lib.ListN.{length, take}
+use lib.Seq.{take-at, length-take-le}
+use Rattle.tanglegram.specs.Run.{Side, left, right, other, run, after}
+use Rattle.tanglegram.specs.Table.{Layouts, layout, crossings, free, Least}
+use Rattle.tanglegram.proofs.Run.{stays-good}
+use Rattle.tanglegram.proofs.Table.{Fits, frees, free-other, run-table}
+use Rattle.record.specs.Fields.{holdOf, sizeOf, leftLayoutAt}
+use Rattle.record.specs.Refusals.{refusal}
+use Rattle.record.specs.Calls.{accepted}
+use Rattle.record.specs.Meaning.{tableOf, layoutsOf, relaid}
+use Rattle.record.proofs.Acceptance.{accepted-sized}
+use Rattle.record.proofs.Meaning.{accepted-fair, accepted-fits, fits-long, length-relaid, layouts-of-relaid}
+use Rattle.table.specs.Sides.{sideOf, holds}
+use Rattle.table.specs.Refusals.{freeing, running}
+use Rattle.table.specs.Calls.{freedLayouts, ranTo, Frees, Runs}
+use Rattle.table.proofs.Turns.{freeing-good, running-good}
+use Rattle.promises.specs.HeldStays as HeldStays
+use Rattle.promises.specs.HeldStays.{Keeps}
+
+keeps-same : (s : List ℕ) → Keeps s s
+keeps-same s = record { same-length = refl; same-front = refl; held-stays = λ side h. refl }
+
+-- new layouts that fit, and are the old ones on a held side
+keeps-relaid : (s : List ℕ) (a : refusal s ≡ 0) (new : Layouts) → Fits (accepted-fair s a) new →
+    ((side : Side) → holds (holdOf s) side ≡ true → layout new side ≡ layout (layoutsOf s) side) → Keeps s (relaid s new)
+unfolding relaid
+keeps-relaid s a new f h =
+    let z = accepted-sized s a in
+    let l = fits-long s a new f left in
+    let r = fits-long s a new f right in
+    record {
+      same-length = length-relaid s z new l r;
+      same-front = take-at (take (leftLayoutAt (sizeOf s)) s) _ (leftLayoutAt (sizeOf s)) (length-take-le (leftLayoutAt (sizeOf s)) s (omega arith));
+      held-stays = λ side e. ap (λ L. layout L side) (layouts-of-relaid s z new l r) ∙ h side e;
+    }
+
+-- a call that is accepted and keeps what it should, or is refused and changes nothing
+either : (s new s′ : List ℕ) (k : ℕ) → s′ ≡ cond (accepted k) new s → (k ≡ 0 → Keeps s new) → Keeps s s′
+either s new s′ k e f = go (eqb k 0) refl e
+  where
+    go : (b : Bool) → eqb k 0 ≡ b → s′ ≡ cond b new s → Keeps s s′
+    go true p q = subst (Keeps s) (sym q) (f (eqb-true k 0 p))
+    go false p q = subst (Keeps s) (sym q) (keeps-same s)
+
+free-keeps : (s : List ℕ) (side : ℕ) → freeing s side ≡ 0 → Keeps s (relaid s (freedLayouts s side))
+free-keeps s side e =
+    let g = freeing-good s side e in
+    let a = g .1 in
+    let F = frees (tableOf s) (accepted-fair s a) in
+    keeps-relaid s a (freedLayouts s side) (F .stays (sideOf side) (layoutsOf s) (accepted-fits s a))
+    (λ x h. untouched (sideOf side) x (g .2) h)
+  where
+    untouched : (freed x : Side) → holds (holdOf s) freed ≡ false → holds (holdOf s) x ≡ true →
+        layout (free (tableOf s) freed (layoutsOf s)) x ≡ layout (layoutsOf s) x
+    untouched left left p q = absurd (true≢false (sym q ∙ p))
+    untouched left right p q = refl
+    untouched right left p q = refl
+    untouched right right p q = absurd (true≢false (sym q ∙ p))
+
+run-keeps : (s : List ℕ) (allowance : ℕ) → running s allowance ≡ 0 → Keeps s (relaid s (ranTo s allowance .last))
+run-keeps s allowance e =
+    let g = running-good s allowance e in
+    let a = g .1 in
+    let F = accepted-fair s a in
+    let fits = accepted-fits s a in
+    let ends = run-table (tableOf s) F allowance (layoutsOf s) fits in
+    let after-fits = stays-good (Fits F) (crossings (tableOf s)) (Least (tableOf s)) (free (tableOf s)) (frees (tableOf s) F)
+        (ranTo s allowance .turns) left (layoutsOf s) fits in
+    keeps-relaid s a (ranTo s allowance .last) (subst (Fits F) (sym (ends .is-after)) after-fits)
+    (λ x h. absurd (none x (g .2) (g .3) h))
+  where
+    none : (x : Side) → holds (holdOf s) left ≡ false → holds (holdOf s) right ≡ false → holds (holdOf s) x ≡ true → ⊥
+    none left p q h = true≢false (sym h ∙ p)
+    none right p q h = true≢false (sym h ∙ q)
+
+pub held-stays : HeldStays.HeldStays
+held-stays = record {
+  free = λ s side answer s′ o. either s (relaid s (freedLayouts s side)) s′ (freeing s side) (o .leaves) (free-keeps s side);
+  run = λ s allowance answer s′ o. either s (relaid s (ranTo s allowance .last)) s′ (running s allowance) (o .leaves) (run-keeps s allowance);
+  free-refused = λ s side answer s′ o h.
+      let k = λ z. h (ap (λ a. a .refusal .number) (o .answers) ∙ z) in
+      (o .leaves ∙ rw (ne-eqb (freeing s side) 0 k) refl,
+      ap (λ a. a .before) (o .answers) ∙ rw (ne-eqb (freeing s side) 0 k) refl,
+      ap (λ a. a .after) (o .answers) ∙ rw (ne-eqb (freeing s side) 0 k) refl);
+  run-refused = λ s allowance answer s′ o h.
+      let k = λ z. h (ap (λ a. a .refusal .number) (o .answers) ∙ z) in
+      let e = ne-eqb (running s allowance) 0 k in
+      (o .leaves ∙ rw e refl,
+      ap (λ a. a .first) (o .answers) ∙ rw e refl,
+      ap (λ a. a .last) (o .answers) ∙ rw e refl,
+      ap (λ a. a .turns) (o .answers) ∙ rw e refl,
+      ap (λ a. a .settled) (o .answers) ∙ rw e refl);
+}

@@ -1,0 +1,3 @@
+pub mod HeldStays
+pub mod Demand2
+pub mod Demand3
