@@ -6,3 +6,5 @@ pub mod Contents
 pub mod Acceptance
 pub mod Outcomes
 pub mod Tables
+pub mod Packed
+pub mod RoundTrip

@@ -1,8 +1,8 @@
 -- Marks: one number more is marked, and 1 to n are marked exactly if each stands in the list.
-use Prim.Native.Nat.{ℕ, zero, suc, pred, _+_, _≤_, _<_}
+use Prim.Native.Nat.{ℕ, suc, pred, _+_, _≤_, _<_}
 use mathlib.Core.Path.{_≡_, refl, sym, ap, _∙_}
 use mathlib.Core.Bool.{Bool, true, false, cond, not, _||_}
-use mathlib.Core.List.{List, [], _∷_, _++_, map}
+use mathlib.Core.List.{List, [], _∷_, _++_}
 use native.Mathlib.Numerals.{add-one}
 use native.Mathlib.Omega.{arith}
 use native.Mathlib.Decide.{ℕ-discrete}
@@ -89,7 +89,8 @@ marking-next xs x = go (eqb x 0) (ltb 512 x) refl refl
         let most = ltb-false 512 x f in
         ext-getD 0 (set (marked xs) (pred x) 1) (marked new)
         (length-set (marked xs) (pred x) 1 ∙ length-marked xs ∙ sym (length-marked new))
-        (λ i p. at i (omega (arith, length-set (marked xs) (pred x) 1, length-marked xs)) (omega arith) (omega arith) (ℕ-discrete i (pred x)))
+        (λ i p.
+        at i (omega (arith, length-set (marked xs) (pred x) 1, length-marked xs)) (omega arith) (omega arith) (ℕ-discrete i (pred x)))
 
 -- 1 to n are marked exactly if each stands in the list
 pub all-marked-links : (xs : List ℕ) (n : ℕ) → n ≤ 512 → allMarked (marked xs) n ≡ oneToOne n xs

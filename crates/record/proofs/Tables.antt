@@ -1,16 +1,15 @@
 -- A table filled with a list of rows: its rows are the list's, so that it is good or bad as they are.
 use Prim.Native.Nat.{ℕ, zero, suc, pred, _+_, _-_, _*_, _≤_, _<_}
-use mathlib.Core.Path.{_≡_, refl, sym, ap, ap₂, _∙_}
-use mathlib.Core.Bool.{Bool, cond, _||_}
-use mathlib.Core.List.{List, [], _∷_, _++_}
+use mathlib.Core.Path.{_≡_, refl, ap, ap₂, _∙_}
+use mathlib.Core.Bool.{cond}
+use mathlib.Core.List.{List, _∷_}
 use native.Mathlib.Omega.{arith}
-use lib.Dec.{eqb, leb}
-use lib.ListN.{length, getD, set, take, drop, length-set, List·getD-append}
+use lib.ListN.{length, getD, set, take, drop, List·getD-append}
 use lib.Seq.{sets, sets-eq, length-sets, getD-set-same, getD-set-other, take-append-seam}
 use Rattle.tanglegram.specs.Lists.{range}
 use Rattle.tanglegram.specs.Tree.{used}
 use Rattle.trees.specs.Rows.{upper, lower, size}
-use Rattle.trees.specs.Rule.{among, first, breaks, badRow}
+use Rattle.trees.specs.Rule.{first, breaks, badRow}
 
 -- ---- rows that agree
 

@@ -1,22 +1,21 @@
 -- Laws of the tests on lists that the refusals use: each entry passes, a number is among the entries, links are one-to-one.
-use Prim.Native.Nat.{ℕ, zero, suc, _≤_, _<_, _+_}
+use Prim.Native.Nat.{ℕ, _≤_, _<_, _+_}
 use mathlib.Core.Path.{_≡_, refl, sym, ap, _∙_}
 use mathlib.Core.Logic.{_↔_}
-use mathlib.Core.Bool.{Bool, true, false, _&&_, _||_, true≢false, false≢true}
+use mathlib.Core.Bool.{Bool, true, false, _&&_, _||_, false≢true}
 use mathlib.Core.List.{List, [], _∷_, _++_, List·Permᴰ, Permᴰ·symm, List·Memᴰ, List·Memᴰ·head, List·Memᴰ·tail}
-use native.Mathlib.Omega.{arith}
 use borrow.Author.Tests.{eqb-true, eq-eqb, le-leb, lt-leb}
 use lib.Dec.{eqb, leb}
 use lib.ListN.{length, getD, take}
 use Rattle.tanglegram.specs.Lists.{Each, range}
-use Rattle.tanglegram.proofs.Lists.{each-map, each-perm, each-intro, mem-perm, mem-at, pigeon, range-distinct, length-range}
+use Rattle.tanglegram.proofs.Lists.{each-map, each-intro, mem-perm, mem-at, pigeon, range-distinct, length-range}
 use Rattle.trees.specs.Rule.{among}
 use Rattle.record.specs.Refusals.{all, isLayout, oneToOne}
 use Rattle.record.proofs.Stores.{take-more}
 
 -- ---- each entry passes a test
 
-and-both : (a b : Bool) → a && b ≡ true → (a ≡ true) × (b ≡ true)
+pub and-both : (a b : Bool) → a && b ≡ true → (a ≡ true) × (b ≡ true)
 and-both true b e = (refl, e)
 and-both false b e = absurd (false≢true e)
 
@@ -81,7 +80,9 @@ one-to-one-perm n ps e = (
   λ t.
       Permᴰ·symm (pigeon (range 1 n) ps (range-distinct 1 n)
       (each-map (range 1 n) (λ c h. among-mem c ps h) (all-each (λ c. among c ps) (range 1 n) t)) (length-range 1 n ∙ sym e)),
-  λ d. each-all (λ c. among c ps) (range 1 n) (each-intro (λ c. among c ps ≡ true) (range 1 n) (λ c m. mem-among (mem-perm (Permᴰ·symm d) m))),
+  λ d.
+      each-all (λ c. among c ps) (range 1 n)
+      (each-intro (λ c. among c ps ≡ true) (range 1 n) (λ c m. mem-among (mem-perm (Permᴰ·symm d) m))),
 )
 
 -- ---- a layout, byte by byte
@@ -90,7 +91,8 @@ pub no-bytes : isLayout [] ≡ true
 unfolding isLayout all
 no-bytes = refl
 
-pub layout-more : (xs : List ℕ) (i : ℕ) → i < length xs → isLayout (take i xs) ≡ true → getD xs i 0 ≤ 1 → isLayout (take (i + 1) xs) ≡ true
+pub layout-more : (xs : List ℕ) (i : ℕ) → i < length xs → isLayout (take i xs) ≡ true → getD xs i 0 ≤ 1 →
+    isLayout (take (i + 1) xs) ≡ true
 unfolding isLayout all
 layout-more xs i h e b =
     ap (all (λ x. leb x 1)) (take-more xs i h)

@@ -1,0 +1,5 @@
+pub mod RecordOutcomes
+pub mod RecordRefused
+pub mod SetHoldOnly
+pub mod RecordBench
+pub mod RecordRoundTrip

@@ -1,0 +1,5 @@
+pub mod RecordOutcomes
+pub mod RecordRefused
+pub mod RecordRoundTrip
+pub mod SetHoldOnly
+pub mod RecordBench
