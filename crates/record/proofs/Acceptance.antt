@@ -5,7 +5,7 @@ use mathlib.Core.Logic.{_≢_}
 use mathlib.Core.Bool.{true, not}
 use mathlib.Core.List.{List}
 use native.Mathlib.Omega.{arith}
-use borrow.Author.Tests.{ltb-false}
+use borrow.Author.Tests.{le-ltb, ltb-false}
 use lib.Dec.{ltb}
 use Rattle.record.specs.Fields.{sizeOf, Sized, parts}
 use Rattle.record.specs.Refusals.{orElse, isHold, heading, contents, refusal, room, holding}
@@ -44,9 +44,12 @@ module _ (s : List ℕ) where
   unfolding refusal
   accepted-sized e = heading-sized (none-both (heading s) (contents (parts s)) e .0)
 
-  pub accepted-parts : refusal s ≡ 0 → GoodParts (parts s)
+  pub accepted-contents : refusal s ≡ 0 → contents (parts s) ≡ 0
   unfolding refusal
-  accepted-parts e = contents-good (parts s) (none-both (heading s) (contents (parts s)) e .1)
+  accepted-contents e = none-both (heading s) (contents (parts s)) e .1
+
+  pub accepted-parts : refusal s ≡ 0 → GoodParts (parts s)
+  accepted-parts e = contents-good (parts s) (accepted-contents e)
 
 -- where the hold can be set, the letter is good and the record accepted
 pub holding-accepted : (s : List ℕ) (letter : ℕ) → holding s letter ≡ 0 → (isHold letter ≡ true) × (refusal s ≡ 0)
@@ -78,3 +81,14 @@ room-good n l r p ll rl e =
       for-left-layout = ltb-false _ _ (t₄ .0);
       for-right-layout = ltb-false _ _ (t₅ .0);
     }
+
+pub room-0 : (n l r p ll rl : ℕ) → Room n l r p ll rl → room n l r p ll rl ≡ 0
+unfolding room
+room-0 n l r p ll rl g =
+    rw (
+      le-ltb _ _ (g .for-left),
+      le-ltb _ _ (g .for-right),
+      le-ltb _ _ (g .for-links),
+      le-ltb _ _ (g .for-left-layout),
+      le-ltb _ _ (g .for-right-layout),
+    ) refl

@@ -1,7 +1,13 @@
 -- The refusal of the parts, test by test, for code that returns at the first that holds; and what good parts say.
+use Prim.Native.Nat.{ℕ}
 use mathlib.Core.Path.{_≡_, refl}
+use mathlib.Core.Logic.{_≢_}
 use mathlib.Core.Bool.{true, false, not}
+use mathlib.Core.List.{List}
 use native.Mathlib.Omega.{arith}
+use borrow.Author.Tests.{eq-eqb, ne-eqb}
+use Rattle.trees.specs.Rows.{upper, lower}
+use Rattle.trees.specs.Rule.{badRow}
 use Rattle.record.specs.Fields.{Parts}
 use Rattle.record.specs.Refusals.{breaksRule, oneToOne, isLayout, contents}
 use Rattle.record.proofs.Heading.{none-first, not-no}
@@ -34,6 +40,15 @@ module _ (P : Parts) where
           pub contents-0 : isLayout (P .right-layout) ≡ true → 0 ≡ contents P
           unfolding contents
           contents-0 h = rw (left, right, links, layout, h) refl
+
+-- a row of the code's test is bad, or none is
+pub broken : {r : ℕ} (n : ℕ) (rows : List ℕ) → r ≡ badRow n (upper rows) (lower rows) → r ≢ 0 → breaksRule n rows ≡ true
+unfolding breaksRule
+broken {r} n rows e h = rw (← e, ne-eqb r 0 h) refl
+
+pub kept : {r : ℕ} (n : ℕ) (rows : List ℕ) → r ≡ badRow n (upper rows) (lower rows) → r ≡ 0 → breaksRule n rows ≡ false
+unfolding breaksRule
+kept {r} n rows e h = rw (← e, eq-eqb r 0 h) refl
 
 -- ---- what good parts say
 

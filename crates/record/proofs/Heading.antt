@@ -1,11 +1,11 @@
 -- The heading's refusal, test by test, for code that returns at the first that holds; and what a good heading says.
 use Prim.Native.Nat.{ℕ, _≤_, _<_}
-use mathlib.Core.Path.{_≡_, refl, sym}
+use mathlib.Core.Path.{_≡_, refl, sym, _∙_}
 use mathlib.Core.Logic.{_≢_}
 use mathlib.Core.Bool.{Bool, true, false, cond, not, _||_, true≢false}
 use mathlib.Core.List.{List}
 use native.Mathlib.Omega.{arith}
-use borrow.Author.Tests.{lt-ltb, le-ltb, eq-eqb, ne-eqb, ltb-false, eqb-true, eqb-false}
+use borrow.Author.Tests.{lt-ltb, le-ltb, eq-eqb, ne-eqb, ltb-false, eqb-true, eqb-false, not-true, not-false}
 use lib.Dec.{eqb, ltb}
 use lib.ListN.{length}
 use Rattle.record.specs.Fields.{two, holdOf, sizeOf, lengthOf}
@@ -79,6 +79,13 @@ none-first false k r p e = (refl, e)
 pub not-no : (b : Bool) → not b ≡ false → b ≡ true
 not-no true e = refl
 not-no false e = sym e
+
+-- a test of the code that was passed, and one that was not
+pub passed : {r b : Bool} → r ≡ b → not r ≡ false → b ≡ true
+passed e h = sym e ∙ not-false _ h
+
+pub failed : {r b : Bool} → r ≡ b → not r ≡ true → b ≡ false
+failed e h = sym e ∙ not-true _ h
 
 pub heading-good : (s : List ℕ) → heading s ≡ 0 → Good s
 unfolding heading

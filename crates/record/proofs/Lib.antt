@@ -7,3 +7,5 @@ pub mod Acceptance
 pub mod Outcomes
 pub mod Tables
 pub mod Meaning
+pub mod Packed
+pub mod RoundTrip

@@ -89,7 +89,8 @@ marking-next xs x = go (eqb x 0) (ltb 512 x) refl refl
         let most = ltb-false 512 x f in
         ext-getD 0 (set (marked xs) (pred x) 1) (marked new)
         (length-set (marked xs) (pred x) 1 ∙ length-marked xs ∙ sym (length-marked new))
-        (λ i p. at i (omega (arith, length-set (marked xs) (pred x) 1, length-marked xs)) (omega arith) (omega arith) (ℕ-discrete i (pred x)))
+        (λ i p.
+        at i (omega (arith, length-set (marked xs) (pred x) 1, length-marked xs)) (omega arith) (omega arith) (ℕ-discrete i (pred x)))
 
 -- 1 to n are marked exactly if each stands in the list
 pub all-marked-links : (xs : List ℕ) (n : ℕ) → n ≤ 512 → allMarked (marked xs) n ≡ oneToOne n xs

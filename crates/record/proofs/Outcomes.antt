@@ -12,7 +12,7 @@ use Rattle.record.specs.declared.reading.Reading.the-variants.{Accepted,
 use Rattle.record.specs.Fields.{holdOf, sizeOf, rightAt, linksAt, leftLayoutAt, rightLayoutAt, Parts, parts, partsOf}
 use Rattle.record.specs.Refusals.{refusal, room, unpacking, holding}
 use Rattle.record.specs.Calls.{refused, lent, orZero, Checks, readingOf, Reads, unpackedNone, Unpacks, SetsHold}
-use Rattle.record.proofs.Acceptance.{else-first, else-second, accepted-sized, room-good}
+use Rattle.record.proofs.Acceptance.{else-first, else-second, none-both, accepted-sized, room-good}
 use Rattle.record.proofs.Stores.{sets-front, length-numbers, length-bytes}
 
 -- ---- numbers and buffers
@@ -81,6 +81,11 @@ module _ (s left right links left-layout right-layout : List ℕ) where
   unfolding unpacking
   unpack-second e = sym (else-second (refusal s) asked e)
 
+  -- what unpacking accepts is an accepted record
+  pub unpack-record : unpacking s left right links left-layout right-layout ≡ 0 → refusal s ≡ 0
+  unfolding unpacking
+  unpack-record e = none-both (refusal s) asked e .0
+
   module _ (a : refusal s ≡ 0)
       (r : room (sizeOf s) (length left) (length right) (length links) (length left-layout) (length right-layout) ≡ 0) where
     pub unpack-accepted : {n : ℕ} {answer : Unpacked} {left′ right′ links′ left-layout′ right-layout′ : List ℕ} → n ≡ sizeOf s →
@@ -101,7 +106,10 @@ module _ (s left right links left-layout right-layout : List ℕ) where
         let put : (part : Parts → List ℕ) (found after : List ℕ) → length (part (parts s)) ≤ length found →
         after ≡ sets found 0 (part (partsOf s _)) → after ≡ lent k (part (parts s)) found =
         λ part found after h e.
-        e ∙ ap (λ m. sets found 0 (part (partsOf s m))) f ∙ sets-front found (part (parts s)) h ∙ lent-accepted k (part (parts s)) found z in
+        e
+        ∙ ap (λ m. sets found 0 (part (partsOf s m))) f
+        ∙ sets-front found (part (parts s)) h
+        ∙ lent-accepted k (part (parts s)) found z in
         record {
           answers = b ∙ rw (f, z) refl;
           leaves-left = put (λ P. P .left-rows) left _ (omega (arith, length-numbers s 8 (2 * (n - 1)))) (w .0);

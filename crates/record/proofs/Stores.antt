@@ -75,7 +75,7 @@ store-entry xs l at i k e h =
     sym (ap (sets l at) (take-more xs i h) ∙ sets-append (take i xs) (getD xs i 0 ∷ []) l at ∙ rw (length-take-le i xs le, e) refl)
 
 -- the two bytes of an entry
-split-append : (xs ys : List ℕ) → split (xs ++ ys) ≡ split xs ++ split ys
+pub split-append : (xs ys : List ℕ) → split (xs ++ ys) ≡ split xs ++ split ys
 unfolding split
 split-append [] ys = refl
 split-append (x ∷ xs) ys = ap (λ r. x / 256 ∷ x % 256 ∷ r) (split-append xs ys)

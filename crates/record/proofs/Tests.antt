@@ -15,7 +15,7 @@ use Rattle.record.proofs.Stores.{take-more}
 
 -- ---- each entry passes a test
 
-and-both : (a b : Bool) → a && b ≡ true → (a ≡ true) × (b ≡ true)
+pub and-both : (a b : Bool) → a && b ≡ true → (a ≡ true) × (b ≡ true)
 and-both true b e = (refl, e)
 and-both false b e = absurd (false≢true e)
 
@@ -80,7 +80,9 @@ one-to-one-perm n ps e = (
   λ t.
       Permᴰ·symm (pigeon (range 1 n) ps (range-distinct 1 n)
       (each-map (range 1 n) (λ c h. among-mem c ps h) (all-each (λ c. among c ps) (range 1 n) t)) (length-range 1 n ∙ sym e)),
-  λ d. each-all (λ c. among c ps) (range 1 n) (each-intro (λ c. among c ps ≡ true) (range 1 n) (λ c m. mem-among (mem-perm (Permᴰ·symm d) m))),
+  λ d.
+      each-all (λ c. among c ps) (range 1 n)
+      (each-intro (λ c. among c ps ≡ true) (range 1 n) (λ c m. mem-among (mem-perm (Permᴰ·symm d) m))),
 )
 
 -- ---- a layout, byte by byte
@@ -89,7 +91,8 @@ pub no-bytes : isLayout [] ≡ true
 unfolding isLayout all
 no-bytes = refl
 
-pub layout-more : (xs : List ℕ) (i : ℕ) → i < length xs → isLayout (take i xs) ≡ true → getD xs i 0 ≤ 1 → isLayout (take (i + 1) xs) ≡ true
+pub layout-more : (xs : List ℕ) (i : ℕ) → i < length xs → isLayout (take i xs) ≡ true → getD xs i 0 ≤ 1 →
+    isLayout (take (i + 1) xs) ≡ true
 unfolding isLayout all
 layout-more xs i h e b =
     ap (all (λ x. leb x 1)) (take-more xs i h)

@@ -54,6 +54,17 @@ pub record Parts : Type 0 where
   pub left-layout : List ℕ
   pub right-layout : List ℕ
 
+abbrev pub given : ℕ → ℕ → List ℕ → List ℕ → List ℕ → List ℕ → List ℕ → Parts
+given h n left right links left-layout right-layout = record {
+  hold = h;
+  size = n;
+  left-rows = left;
+  right-rows = right;
+  links = links;
+  left-layout = left-layout;
+  right-layout = right-layout;
+}
+
 -- The parts read from bytes as a record over n leaves, and as a record over as many leaves as it says.
 unfoldable pub partsOf : List ℕ → ℕ → Parts
 partsOf s n = record {
@@ -70,10 +81,14 @@ abbrev pub parts : List ℕ → Parts
 parts s = partsOf s (sizeOf s)
 
 -- The bytes of a record with these parts: `TGP`, version 1, hold, n, then part after part.
+abbrev pub opening : ℕ → ℕ → List ℕ
+opening h n = 84 ∷ 71 ∷ 80 ∷ 0 ∷ 1 ∷ h ∷ n / 256 ∷ n % 256 ∷ []
+
 unfoldable pub packed : Parts → List ℕ
+unfolding split
 packed P =
-    84 ∷ 71 ∷ 80 ∷ 0 ∷ 1 ∷ P .hold ∷ P .size / 256 ∷ P .size % 256
-    ∷ (split (P .left-rows) ++ (split (P .right-rows) ++ (split (P .links) ++ (P .left-layout ++ P .right-layout))))
+    opening (P .hold) (P .size)
+    ++ (split (P .left-rows) ++ (split (P .right-rows) ++ (split (P .links) ++ (P .left-layout ++ P .right-layout))))
 
 -- A record over n leaves, from 1 to 512, has the length that it should.
 pub record Sized (s : List ℕ) (n : ℕ) : Type 0 where
@@ -81,3 +96,13 @@ pub record Sized (s : List ℕ) (n : ℕ) : Type 0 where
   pub some : 1 ≤ n
   pub most : n ≤ 512
   pub whole : length s ≡ lengthOf n
+
+-- Lists of the lengths that the parts of a record over n leaves, from 1 to 512, have.
+pub record Shaped (n : ℕ) (left right links left-layout right-layout : List ℕ) : Type 0 where
+  pub some : 1 ≤ n
+  pub most : n ≤ 512
+  pub left-long : length left ≡ 2 * (n - 1)
+  pub right-long : length right ≡ 2 * (n - 1)
+  pub links-long : length links ≡ n
+  pub left-layout-long : length left-layout ≡ n - 1
+  pub right-layout-long : length right-layout ≡ n - 1

@@ -94,19 +94,27 @@ unpacking s left right links left-layout right-layout =
     orElse (refusal s)
     (room (sizeOf s) (length left) (length right) (length links) (length left-layout) (length right-layout))
 
--- Packing's, with the buffer whose places count.
-unfoldable pub packing : Parts → List ℕ → ℕ
-unfolding contents isHold noSize
-packing P out =
-    let n = P .size in
-    4 when not (isHold (P .hold))
+-- Packing's, with the buffer whose places count: first the hold, n, and the length of each list.
+unfoldable pub shape : ℕ → ℕ → ℕ → ℕ → ℕ → ℕ → ℕ → ℕ
+unfolding isHold noSize
+shape hold n left right links left-layout right-layout =
+    4 when not (isHold hold)
     else 5 when noSize n
-    else 6 when not (eqb (length (P .left-rows)) (2 * (n - 1)))
-    else 6 when not (eqb (length (P .right-rows)) (2 * (n - 1)))
-    else 6 when not (eqb (length (P .links)) n)
-    else 6 when not (eqb (length (P .left-layout)) (n - 1))
-    else 6 when not (eqb (length (P .right-layout)) (n - 1))
-    else orElse (contents P) (14 when ltb (length out) (lengthOf n) else 0)
+    else 6 when not (eqb left (2 * (n - 1)))
+    else 6 when not (eqb right (2 * (n - 1)))
+    else 6 when not (eqb links n)
+    else 6 when not (eqb left-layout (n - 1))
+    else 6 when not (eqb right-layout (n - 1))
+    else 0
+
+abbrev pub shapeOf : Parts → ℕ
+shapeOf P =
+    shape (P .hold) (P .size) (length (P .left-rows)) (length (P .right-rows)) (length (P .links)) (length (P .left-layout))
+    (length (P .right-layout))
+
+unfoldable pub packing : Parts → List ℕ → ℕ
+unfolding shape contents
+packing P out = orElse (shapeOf P) (orElse (contents P) (14 when ltb (length out) (lengthOf (P .size)) else 0))
 
 -- Setting the hold's: the letter is tested before the record.
 unfoldable pub holding : List ℕ → ℕ → ℕ

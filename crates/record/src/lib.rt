@@ -1,8 +1,10 @@
-// The record: the bytes that are the device's whole state, the hold mark among them. Reading, refusing, packing, the hold.
+// The record: the bytes that are the device's whole state, the hold mark among them. Reading, refusing, packing,
+// the hold.
 mod copying;
 mod filling;
 mod hold;
 mod links;
+pub mod packing;
 pub mod reading;
 pub mod refusal;
 mod testing;
@@ -11,6 +13,7 @@ pub mod unpacking;
 pub use filling::fill_links;
 pub use filling::fill_table;
 pub use hold::set_hold;
+pub use packing::pack;
 pub use reading::check;
 pub use reading::read;
 pub use reading::refusal_number;

@@ -85,7 +85,11 @@ pub fn heading_number(s: &[u8]) -> u16
 fn bad_row_at(s: &[u8], at: usize, n: u16) -> u16
     requires { ⌜ (1 ≤ n) × (n ≤ 512) × (at + 4 * (n - 1) ≤ length (now s)) ⌝ }
     ensures { λ r. ⌜
-        r ≡ badRow n (upper (numbers (now (s .entry)) at (2 * (n - 1)))) (lower (numbers (now (s .entry)) at (2 * (n - 1))))
+        r ≡
+        badRow
+        n
+        (upper (numbers (now (s .entry)) at (2 * (n - 1))))
+        (lower (numbers (now (s .entry)) at (2 * (n - 1))))
         ⌝ }
 {
     let mut tab = [0u16; 1023];

@@ -78,8 +78,12 @@ fn write_parts(
     ensures { λ _. ⌜ now (left .exit) ≡ sets (now (left .entry)) 0 (partsOf (now (s .entry)) n .left-rows) ⌝ }
     ensures { λ _. ⌜ now (right .exit) ≡ sets (now (right .entry)) 0 (partsOf (now (s .entry)) n .right-rows) ⌝ }
     ensures { λ _. ⌜ now (links .exit) ≡ sets (now (links .entry)) 0 (partsOf (now (s .entry)) n .links) ⌝ }
-    ensures { λ _. ⌜ now (leftlayout .exit) ≡ sets (now (leftlayout .entry)) 0 (partsOf (now (s .entry)) n .left-layout) ⌝ }
-    ensures { λ _. ⌜ now (rightlayout .exit) ≡ sets (now (rightlayout .entry)) 0 (partsOf (now (s .entry)) n .right-layout) ⌝ }
+    ensures { λ _. ⌜
+        now (leftlayout .exit) ≡ sets (now (leftlayout .entry)) 0 (partsOf (now (s .entry)) n .left-layout)
+        ⌝ }
+    ensures { λ _. ⌜
+        now (rightlayout .exit) ≡ sets (now (rightlayout .entry)) 0 (partsOf (now (s .entry)) n .right-layout)
+        ⌝ }
 {
     let k = n as usize;
     let m = k - 1;
@@ -92,8 +96,8 @@ fn write_parts(
     bytes_in(&s[last..], rightlayout, 0);
 }
 
-// Unpacks any bytes: writes the rows of each tree, the links and the layouts to the buffers' first places, if the record is
-// accepted and each buffer has the places; else it answers the refusal and writes nothing.
+// Unpacks any bytes: writes the rows of each tree, the links and the layouts to the buffers' first places, if the
+// record is accepted and each buffer has the places; else it answers the refusal and writes nothing.
 pub fn unpack(
     s: &[u8],
     left: &mut [u16],

@@ -1,4 +1,5 @@
-use Prim.Native.Nat.{_+_, _-_, _*_, _≤_}
+-- `bytes_in` stores the bytes of a list one after the other, from its place on.
+use Prim.Native.Nat.{_+_, _-_, _≤_}
 use mathlib.Core.Path.{_≡_, refl, ap, _∙_}
 use native.Mathlib.Omega.{arith}
 use lib.ListN.{length, length-set, take}
@@ -7,8 +8,6 @@ use Rattle.record.proofs.Stores.{store-entry}
 use borrow.Author.Needs.{needs}
 use Rattle.record.proofs.copying.bytes_in.Statement.{statement}
 use Rattle.record.proofs.copying.bytes_in.Tie as tie
-use Rattle.record.proofs.copying.bytes_in.Reads as reads
-use Rattle.record.proofs.copying.bytes_in.Lts as lts
 
 abbrev Inv-loop : tie.InvT-loop
 Inv-loop list out₀ at i₀ out i = (i ≤ length list) × (length out ≡ length out₀) × (out ≡ sets out₀ at (take i list))
@@ -16,42 +15,35 @@ Inv-loop list out₀ at i₀ out i = (i ≤ length list) × (length out ≡ leng
 abbrev μ-loop : tie.MeasureT-loop
 μ-loop list out₀ at i₀ out i = length list - i
 
--- src/copying.rt:34:5
 loop-holds : tie.Need-loop-holds Inv-loop μ-loop
 loop-holds c = search needs
 
--- src/copying.rt:35:23
 shared-slice-read-out : tie.Need-shared-slice-read-out Inv-loop μ-loop
 shared-slice-read-out c = search needs
 
--- src/copying.rt:35:13
 add-out : tie.Need-add-out Inv-loop μ-loop
 add-out c = search needs
 
--- src/copying.rt:35:9
 slice-write-out : tie.Need-slice-write-out Inv-loop μ-loop
 slice-write-out c = search needs
 
--- src/copying.rt:36:9
 add-i : tie.Need-add-i Inv-loop μ-loop
 add-i c = search needs
 
--- src/copying.rt:34:5
 loop-less : tie.Need-loop-less Inv-loop μ-loop
 loop-less c = search needs
 
--- src/copying.rt:34:5
 loop-again : tie.Need-loop-again Inv-loop μ-loop
 loop-again c =
     let s = c .before .before .before in
     let l = c .before .before .loop in
-    (omega arith, simp length-set (l .inv .1), rw (l .inv .2) (store-entry (s .args .list .now) (s .args .out .now) (s .args .at) (l .i) (s .args .at + l .i) refl (omega arith)))
+    let a = s .args in
+    let stored = store-entry (a .list .now) (a .out .now) (a .at) (l .i) (a .at + l .i) refl (omega arith) in
+    (omega arith, simp length-set (l .inv .1), rw (l .inv .2) stored)
 
--- src/copying.rt:29:1
 same-length : tie.Need-same-length Inv-loop μ-loop
 same-length c = search needs
 
--- src/copying.rt:29:1
 returns : tie.Need-returns Inv-loop μ-loop
 returns c =
     let l = c .before .loop in

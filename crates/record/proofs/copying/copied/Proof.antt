@@ -1,5 +1,6 @@
-use Prim.Native.Nat.{_+_, _-_, _*_, _≤_}
-use mathlib.Core.Path.{_≡_, refl, ap, _∙_}
+-- `copied` stores the numbers of a list one after the other, from the first place on.
+use Prim.Native.Nat.{_-_, _≤_}
+use mathlib.Core.Path.{_≡_, ap, _∙_}
 use native.Mathlib.Omega.{arith}
 use lib.ListN.{length, length-set, take}
 use lib.Seq.{sets, take-all}
@@ -7,8 +8,6 @@ use Rattle.record.proofs.Stores.{store-entry}
 use borrow.Author.Needs.{needs}
 use Rattle.record.proofs.copying.copied.Statement.{statement}
 use Rattle.record.proofs.copying.copied.Tie as tie
-use Rattle.record.proofs.copying.copied.Reads as reads
-use Rattle.record.proofs.copying.copied.Lts as lts
 
 abbrev Inv-loop : tie.InvT-loop
 Inv-loop list out₀ i₀ out i = (i ≤ length list) × (length out ≡ length out₀) × (out ≡ sets out₀ 0 (take i list))
@@ -16,46 +15,37 @@ Inv-loop list out₀ i₀ out i = (i ≤ length list) × (length out ≡ length 
 abbrev μ-loop : tie.MeasureT-loop
 μ-loop list out₀ i₀ out i = length list - i
 
--- src/copying.rt:46:5
 loop-holds : tie.Need-loop-holds Inv-loop μ-loop
 loop-holds c = search needs
 
--- src/copying.rt:47:18
 mul-out : tie.Need-mul-out Inv-loop μ-loop
 mul-out c = search needs
 
--- src/copying.rt:47:18
 shared-slice-read-out : tie.Need-shared-slice-read-out Inv-loop μ-loop
 shared-slice-read-out c = search needs
 
--- src/copying.rt:47:9
 mul-out-2 : tie.Need-mul-out-2 Inv-loop μ-loop
 mul-out-2 c = search needs
 
--- src/copying.rt:47:9
 slice-write-out : tie.Need-slice-write-out Inv-loop μ-loop
 slice-write-out c = search needs
 
--- src/copying.rt:48:9
 add-i : tie.Need-add-i Inv-loop μ-loop
 add-i c = search needs
 
--- src/copying.rt:46:5
 loop-less : tie.Need-loop-less Inv-loop μ-loop
 loop-less c = search needs
 
--- src/copying.rt:46:5
 loop-again : tie.Need-loop-again Inv-loop μ-loop
 loop-again c =
     let s = c .before .before .before in
     let l = c .before .before .loop in
-    (omega arith, simp length-set (l .inv .1), rw (l .inv .2) (store-entry (s .args .list .now) (s .args .out .now) 0 (l .i) (l .i) (omega arith) (omega arith)))
+    let stored = store-entry (s .args .list .now) (s .args .out .now) 0 (l .i) (l .i) (omega arith) (omega arith) in
+    (omega arith, simp length-set (l .inv .1), rw (l .inv .2) stored)
 
--- src/copying.rt:41:1
 same-length : tie.Need-same-length Inv-loop μ-loop
 same-length c = search needs
 
--- src/copying.rt:41:1
 returns : tie.Need-returns Inv-loop μ-loop
 returns c =
     let l = c .before .loop in

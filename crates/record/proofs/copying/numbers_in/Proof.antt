@@ -1,5 +1,6 @@
-use Prim.Native.Nat.{_+_, _-_, _*_, _≤_}
-use mathlib.Core.Path.{_≡_, refl, ap, _∙_}
+-- `numbers_in` stores the two bytes of each number of a list, from its place on.
+use Prim.Native.Nat.{_-_, _≤_}
+use mathlib.Core.Path.{_≡_, ap, _∙_}
 use native.Mathlib.Omega.{arith}
 use lib.ListN.{length, length-set, take}
 use lib.Seq.{sets, take-all}
@@ -8,8 +9,6 @@ use Rattle.record.proofs.Stores.{store-two}
 use borrow.Author.Needs.{needs}
 use Rattle.record.proofs.copying.numbers_in.Statement.{statement}
 use Rattle.record.proofs.copying.numbers_in.Tie as tie
-use Rattle.record.proofs.copying.numbers_in.Reads as reads
-use Rattle.record.proofs.copying.numbers_in.Lts as lts
 
 abbrev Inv-loop : tie.InvT-loop
 Inv-loop list out₀ at i₀ out i = (i ≤ length list) × (length out ≡ length out₀) × (out ≡ sets out₀ at (split (take i list)))
@@ -17,64 +16,49 @@ Inv-loop list out₀ at i₀ out i = (i ≤ length list) × (length out ≡ leng
 abbrev μ-loop : tie.MeasureT-loop
 μ-loop list out₀ at i₀ out i = length list - i
 
--- src/copying.rt:58:5
 loop-holds : tie.Need-loop-holds Inv-loop μ-loop
 unfolding split
 loop-holds c = search needs
 
--- src/copying.rt:59:17
 mul-x : tie.Need-mul-x Inv-loop μ-loop
 mul-x c = search needs
 
--- src/copying.rt:59:17
 shared-slice-read-x : tie.Need-shared-slice-read-x Inv-loop μ-loop
 shared-slice-read-x c = search needs
 
--- src/copying.rt:60:27
 cast-out : tie.Need-cast-out Inv-loop μ-loop
 cast-out c = omega (arith, c .shared-slice-known .given (c .before .before .loop .i))
 
--- src/copying.rt:60:18
 mul-out : tie.Need-mul-out Inv-loop μ-loop
 mul-out c = search needs
 
--- src/copying.rt:60:13
 add-out : tie.Need-add-out Inv-loop μ-loop
 add-out c = search needs
 
--- src/copying.rt:60:9
 slice-write-out : tie.Need-slice-write-out Inv-loop μ-loop
 slice-write-out c = search needs
 
--- src/copying.rt:61:31
 cast-out-2 : tie.Need-cast-out-2 Inv-loop μ-loop
 cast-out-2 c = search needs
 
--- src/copying.rt:61:18
 mul-out-2 : tie.Need-mul-out-2 Inv-loop μ-loop
 mul-out-2 c = search needs
 
--- src/copying.rt:61:13
 add-out-2 : tie.Need-add-out-2 Inv-loop μ-loop
 add-out-2 c = search needs
 
--- src/copying.rt:61:13
 add-out-3 : tie.Need-add-out-3 Inv-loop μ-loop
 add-out-3 c = search needs
 
--- src/copying.rt:61:9
 slice-write-out-2 : tie.Need-slice-write-out-2 Inv-loop μ-loop
 slice-write-out-2 c = simp length-set (omega arith)
 
--- src/copying.rt:62:9
 add-i : tie.Need-add-i Inv-loop μ-loop
 add-i c = search needs
 
--- src/copying.rt:58:5
 loop-less : tie.Need-loop-less Inv-loop μ-loop
 loop-less c = search needs
 
--- src/copying.rt:58:5
 loop-again : tie.Need-loop-again Inv-loop μ-loop
 loop-again c =
     let s = c .before .before .before in
@@ -82,16 +66,14 @@ loop-again c =
     let stored = store-two (s .args .list .now) (s .args .out .now) (s .args .at) (l .i) (omega arith) in
     (omega arith, simp length-set (l .inv .1), rw (l .inv .2) stored)
 
--- src/copying.rt:53:1
 same-length : tie.Need-same-length Inv-loop μ-loop
 same-length c = search needs
 
--- src/copying.rt:53:1
 returns : tie.Need-returns Inv-loop μ-loop
 returns c =
     let l = c .before .loop in
-    let xs = c .before .before .args .list .now in
-    l .inv .2 ∙ ap (λ r. sets (c .before .before .args .out .now) (c .before .before .args .at) (split r)) (take-all (l .i) xs (omega arith))
+    let a = c .before .before .args in
+    l .inv .2 ∙ ap (λ r. sets (a .out .now) (a .at) (split r)) (take-all (l .i) (a .list .now) (omega arith))
 
 pub numbers-in-spec : {M : Type 1} → statement M
 numbers-in-spec =

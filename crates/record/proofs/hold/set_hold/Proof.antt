@@ -1,3 +1,4 @@
+-- `set_hold` answers the refusal and changes nothing, or writes byte 5.
 use mathlib.Core.Path.{sym, _∙_}
 use native.Mathlib.Omega.{arith}
 use Rattle.record.proofs.Acceptance.{accepted-sized, holding-accepted}
@@ -5,34 +6,25 @@ use Rattle.record.proofs.Outcomes.{hold-refused, hold-set}
 use borrow.Author.Needs.{needs}
 use Rattle.record.proofs.hold.set_hold.Statement.{statement}
 use Rattle.record.proofs.hold.set_hold.Tie as tie
-use Rattle.record.proofs.hold.set_hold.Reads as reads
-use Rattle.record.proofs.hold.set_hold.Lts as lts
-use Rattle.record.proofs.hold.holding_number.Reads as holding-number-reads
 
--- src/hold.rt:24:9
 holding-number-requires : tie.Need-holding-number-requires
 holding-number-requires c κs = search needs
 
--- src/hold.rt:26:9
 same-length : tie.Need-same-length
 same-length c = search needs
 
--- src/hold.rt:26:9
 returns : tie.Need-returns
 returns c = hold-refused _ _ (c .before .holding-number .ensures) (c .if1 .taken)
 
--- src/hold.rt:28:5
 slice-write-s : tie.Need-slice-write-s
 slice-write-s c =
     let z = holding-accepted _ _ (sym (c .before .holding-number .ensures) ∙ c .if1 .left) in
     let g = accepted-sized _ (z .1) in
     omega arith
 
--- src/hold.rt:21:1
 same-length-2 : tie.Need-same-length-2
 same-length-2 c = search needs
 
--- src/hold.rt:21:1
 returns-2 : tie.Need-returns-2
 returns-2 c = hold-set _ _ (c .before .holding-number .ensures) (c .if1 .left)
 

@@ -1,3 +1,4 @@
+-- `all_marked` says whether 1 to n are marked: it has passed marks only, or met one that is missing.
 use Rattle.record.proofs.Marks.{all-marked-more, all-marked-less, none-asked}
 use Prim.Native.Nat.{_-_, _≤_}
 use mathlib.Core.Path.{_≡_, sym}
@@ -7,8 +8,6 @@ use Rattle.record.specs.Marks.{allMarked}
 use borrow.Author.Needs.{needs}
 use Rattle.record.proofs.links.all_marked.Statement.{statement}
 use Rattle.record.proofs.links.all_marked.Tie as tie
-use Rattle.record.proofs.links.all_marked.Reads as reads
-use Rattle.record.proofs.links.all_marked.Lts as lts
 
 abbrev Inv-loop : tie.InvT-loop
 Inv-loop marks n i₀ i = (i ≤ n) × (allMarked marks i ≡ true)
@@ -16,36 +15,29 @@ Inv-loop marks n i₀ i = (i ≤ n) × (allMarked marks i ≡ true)
 abbrev μ-loop : tie.MeasureT-loop
 μ-loop marks n i₀ i = n - i
 
--- src/links.rt:41:5
 loop-holds : tie.Need-loop-holds Inv-loop μ-loop
 loop-holds c = (omega arith, none-asked (c .args .marks .now))
 
--- src/links.rt:42:12
 element-copy-out-if1 : tie.Need-element-copy-out-if1 Inv-loop μ-loop
 element-copy-out-if1 c = search needs
 
--- src/links.rt:43:13
 returns : tie.Need-returns Inv-loop μ-loop
 returns c =
     let s = c .before .before .before .before .args in
     sym (all-marked-less (s .marks .now) (s .n) (c .before .before .before .loop .i) (omega arith) (c .if1 .taken))
 
--- src/links.rt:45:9
 add-i : tie.Need-add-i Inv-loop μ-loop
 add-i c = search needs
 
--- src/links.rt:41:5
 loop-less : tie.Need-loop-less Inv-loop μ-loop
 loop-less c = search needs
 
--- src/links.rt:41:5
 loop-again : tie.Need-loop-again Inv-loop μ-loop
 loop-again c =
     let s = c .before .before .before .before .args in
     let l = c .before .before .before .loop in
     (omega arith, all-marked-more (s .marks .now) (l .i) (l .inv .1) (c .if1 .left))
 
--- src/links.rt:36:1
 returns-2 : tie.Need-returns-2 Inv-loop μ-loop
 returns-2 c =
     let s = c .before .before .args in

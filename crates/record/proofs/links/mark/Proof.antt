@@ -1,3 +1,4 @@
+-- `mark` marks a number from 1 to 512, and nothing else.
 use Prim.Native.Nat.{pred, _-_}
 use mathlib.Core.Path.{_≡_, ap}
 use lib.ListN.{set}
@@ -6,26 +7,19 @@ use native.Mathlib.Omega.{arith}
 use borrow.Author.Needs.{needs}
 use Rattle.record.proofs.links.mark.Statement.{statement}
 use Rattle.record.proofs.links.mark.Tie as tie
-use Rattle.record.proofs.links.mark.Reads as reads
-use Rattle.record.proofs.links.mark.Lts as lts
 
--- src/links.rt:14:9
 returns : tie.Need-returns
 returns c = simp (eq-eqb _ _ (c .if1 .taken))
 
--- src/links.rt:17:9
 returns-2 : tie.Need-returns-2
 returns-2 c = simp (ne-eqb _ _ (c .before .if1 .left), lt-ltb _ _ (c .if2 .taken))
 
--- src/links.rt:19:13
 sub-k : tie.Need-sub-k
 sub-k c = search needs
 
--- src/links.rt:20:5
 element-write-marks : tie.Need-element-write-marks
 element-write-marks c = search needs
 
--- src/links.rt:10:1
 returns-3 : tie.Need-returns-3
 returns-3 c =
     let s = c .before .before .args in

@@ -1,16 +1,14 @@
+-- `mark_links` marks each link in turn: the marks are those of the links passed.
 use Prim.Native.Nat.{_-_, _≤_}
 use mathlib.Core.Path.{_≡_, sym, ap, _∙_}
 use native.Mathlib.Omega.{arith}
-use lib.ListN.{length, take}
+use lib.ListN.{take}
 use Rattle.record.specs.Marks.{marked}
 use Rattle.record.proofs.Marks.{marking-next}
 use Rattle.record.proofs.Stores.{take-more}
 use borrow.Author.Needs.{needs}
 use Rattle.record.proofs.links.mark_links.Statement.{statement}
 use Rattle.record.proofs.links.mark_links.Tie as tie
-use Rattle.record.proofs.links.mark_links.Reads as reads
-use Rattle.record.proofs.links.mark_links.Lts as lts
-use Rattle.record.proofs.links.mark.Reads as mark-reads
 
 abbrev Inv-loop : tie.InvT-loop
 Inv-loop links n marks₀ i₀ marks i = (i ≤ n) × (marks ≡ marked (take i links))
@@ -18,31 +16,24 @@ Inv-loop links n marks₀ i₀ marks i = (i ≤ n) × (marks ≡ marked (take i 
 abbrev μ-loop : tie.MeasureT-loop
 μ-loop links n marks₀ i₀ marks i = n - i
 
--- src/links.rt:29:5
 loop-holds : tie.Need-loop-holds Inv-loop μ-loop
 loop-holds c = (omega arith, c .pre .2)
 
--- src/links.rt:30:21
 mul-mark : tie.Need-mul-mark Inv-loop μ-loop
 mul-mark c = search needs
 
--- src/links.rt:30:21
 element-copy-out-mark : tie.Need-element-copy-out-mark Inv-loop μ-loop
 element-copy-out-mark c = search needs
 
--- src/links.rt:30:9
 mark-requires : tie.Need-mark-requires Inv-loop μ-loop
 mark-requires c κs = search needs
 
--- src/links.rt:31:9
 add-i : tie.Need-add-i Inv-loop μ-loop
 add-i c = search needs
 
--- src/links.rt:29:5
 loop-less : tie.Need-loop-less Inv-loop μ-loop
 loop-less c = search needs
 
--- src/links.rt:29:5
 loop-again : tie.Need-loop-again Inv-loop μ-loop
 loop-again c =
     let s = c .before .before .before .before .before .args in
@@ -50,7 +41,6 @@ loop-again c =
     let next = take-more (s .links .now) (l .i) (omega arith) in
     (omega arith, c .mark .ensures ∙ rw (l .inv .1) (marking-next (take (l .i) (s .links .now)) _) ∙ ap marked (sym next))
 
--- src/links.rt:24:1
 returns : tie.Need-returns Inv-loop μ-loop
 returns c =
     let s = c .before .before .args in

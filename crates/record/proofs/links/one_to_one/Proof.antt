@@ -1,3 +1,4 @@
+-- `one_to_one` says whether the links take each value from 1 to n.
 use mathlib.Core.Path.{ap, _∙_}
 use lib.ListN.{take}
 use Rattle.record.specs.Marks.{allMarked}
@@ -5,22 +6,15 @@ use Rattle.record.proofs.Marks.{none-marked, all-marked-links}
 use borrow.Author.Needs.{needs}
 use Rattle.record.proofs.links.one_to_one.Statement.{statement}
 use Rattle.record.proofs.links.one_to_one.Tie as tie
-use Rattle.record.proofs.links.one_to_one.Reads as reads
-use Rattle.record.proofs.links.one_to_one.Lts as lts
-use Rattle.record.proofs.links.all_marked.Reads as all-marked-reads
-use Rattle.record.proofs.links.mark_links.Reads as mark-links-reads
 
--- src/links.rt:56:5
 mark-links-requires : tie.Need-mark-links-requires
 mark-links-requires c κs =
     let p = c .before .pre in
     (p .0, p .1, none-marked)
 
--- src/links.rt:57:5
 all-marked-requires : tie.Need-all-marked-requires
 all-marked-requires c κs = search needs
 
--- src/links.rt:51:1
 returns : tie.Need-returns
 returns c =
     let s = c .before .before .before .before .args in

@@ -1,3 +1,4 @@
+-- `read` answers the refusal, or the hold and n of an accepted record.
 use mathlib.Core.Path.{refl, sym, _∙_}
 use native.Mathlib.Omega.{arith}
 use Rattle.record.proofs.Acceptance.{accepted-sized}
@@ -5,34 +6,25 @@ use Rattle.record.proofs.Outcomes.{read-refused, read-accepted}
 use borrow.Author.Needs.{needs}
 use Rattle.record.proofs.reading.read.Statement.{statement}
 use Rattle.record.proofs.reading.read.Tie as tie
-use Rattle.record.proofs.reading.read.Reads as reads
-use Rattle.record.proofs.reading.read.Lts as lts
-use Rattle.record.proofs.copying.number.Reads as number-reads
-use Rattle.record.proofs.reading.refusal_number.Reads as refusal-number-reads
 
--- src/reading.rt:46:9
 refusal-number-requires : tie.Need-refusal-number-requires
 refusal-number-requires c κs = search needs
 
--- src/reading.rt:48:9
 returns : tie.Need-returns
 returns c = read-refused _ (c .before .refusal-number .ensures) (c .if1 .taken)
 
--- src/reading.rt:51:15
 shared-slice-read-t6 : tie.Need-shared-slice-read-t6
 shared-slice-read-t6 c =
     let p = c .before in
     let g = accepted-sized _ (sym (p .before .refusal-number .ensures) ∙ p .if1 .left) in
     omega arith
 
--- src/reading.rt:52:12
 number-requires : tie.Need-number-requires
 number-requires c κs =
     let p = c .before in
     let g = accepted-sized _ (sym (p .before .refusal-number .ensures) ∙ p .if1 .left) in
     omega arith
 
--- src/reading.rt:43:1
 returns-2 : tie.Need-returns-2
 returns-2 c =
     let p = c .before .before in

@@ -1,3 +1,4 @@
+-- `refusal_number` gives the heading's refusal, or else that of the parts.
 use mathlib.Core.Path.{sym, ap, _∙_, subst}
 use native.Mathlib.Omega.{arith}
 use Rattle.record.specs.Fields.{Sized, partsOf}
@@ -6,35 +7,25 @@ use Rattle.record.proofs.Acceptance.{refusal-heading, refusal-contents,
 use borrow.Author.Needs.{needs}
 use Rattle.record.proofs.reading.refusal_number.Statement.{statement}
 use Rattle.record.proofs.reading.refusal_number.Tie as tie
-use Rattle.record.proofs.reading.refusal_number.Reads as reads
-use Rattle.record.proofs.reading.refusal_number.Lts as lts
-use Rattle.record.proofs.copying.number.Reads as number-reads
-use Rattle.record.proofs.testing.contents_number.Reads as contents-number-reads
-use Rattle.record.proofs.testing.heading_number.Reads as heading-number-reads
 
--- src/reading.rt:26:9
 heading-number-requires : tie.Need-heading-number-requires
 heading-number-requires c κs = search needs
 
--- src/reading.rt:28:9
 returns : tie.Need-returns
 returns c =
     let e = c .before .heading-number .ensures in
     e ∙ sym (refusal-heading _ (λ z. c .if1 .taken (e ∙ z)))
 
--- src/reading.rt:30:24
 number-requires : tie.Need-number-requires
 number-requires c κs =
     let g = heading-sized _ (sym (c .before .heading-number .ensures) ∙ c .if1 .left) in
     omega arith
 
--- src/reading.rt:30:5
 contents-number-requires : tie.Need-contents-number-requires
 contents-number-requires c κs =
     let p = c .before in
     subst (Sized _) (sym (c .number .ensures)) (heading-sized _ (sym (p .before .heading-number .ensures) ∙ p .if1 .left))
 
--- src/reading.rt:23:1
 returns-2 : tie.Need-returns-2
 returns-2 c =
     let p = c .before .before in

@@ -1,8 +1,7 @@
+-- `bad_row_at` gives the lowest bad row of the rows that stand in a record.
 use Prim.Native.Nat.{_-_, _*_}
-use mathlib.Core.Path.{_≡_, refl, ap, _∙_}
-use native.Mathlib.Omega.{arith}
+use mathlib.Core.Path.{refl, ap, _∙_}
 use lib.ListN.{set}
-use lib.Seq.{sets}
 use Rattle.trees.specs.Rows.{upper, lower, size}
 use Rattle.trees.specs.Rule.{badRow}
 use Rattle.record.specs.Fields.{numbers}
@@ -11,36 +10,25 @@ use Rattle.record.proofs.Tables.{bad-row-filled}
 use borrow.Author.Needs.{needs}
 use Rattle.record.proofs.testing.bad_row_at.Statement.{statement}
 use Rattle.record.proofs.testing.bad_row_at.Tie as tie
-use Rattle.record.proofs.testing.bad_row_at.Reads as reads
-use Rattle.record.proofs.testing.bad_row_at.Lts as lts
-use Rattle.record.proofs.copying.numbers_out.Reads as numbers-out-reads
-use Rattle.trees.proofs.bad_row.Reads as bad-row-reads
 
--- src/testing.rt:77:29
 sub-numbers-out : tie.Need-sub-numbers-out
 sub-numbers-out c = search needs
 
--- src/testing.rt:77:24
 mul-numbers-out : tie.Need-mul-numbers-out
 mul-numbers-out c = search needs
 
--- src/testing.rt:77:46
 slice-aggregate-numbers-out : tie.Need-slice-aggregate-numbers-out
 slice-aggregate-numbers-out c = search needs
 
--- src/testing.rt:77:5
 numbers-out-requires : tie.Need-numbers-out-requires
 numbers-out-requires c κs = search needs
 
--- src/testing.rt:78:5
 array-write-tab : tie.Need-array-write-tab
 array-write-tab c = search needs
 
--- src/testing.rt:79:5
 bad-row-requires : tie.Need-bad-row-requires
 bad-row-requires c κs = search needs
 
--- src/testing.rt:70:1
 returns : tie.Need-returns
 returns c =
     let p = c .before .before .before in

@@ -1,3 +1,4 @@
+-- `bad_row_in` gives the lowest bad row of a list of rows.
 use mathlib.Core.Path.{refl, ap, _∙_}
 use lib.ListN.{set}
 use Rattle.trees.specs.Rows.{upper, lower, size}
@@ -6,28 +7,19 @@ use Rattle.record.proofs.Tables.{bad-row-filled}
 use borrow.Author.Needs.{needs}
 use Rattle.record.proofs.testing.bad_row_in.Statement.{statement}
 use Rattle.record.proofs.testing.bad_row_in.Tie as tie
-use Rattle.record.proofs.testing.bad_row_in.Reads as reads
-use Rattle.record.proofs.testing.bad_row_in.Lts as lts
-use Rattle.record.proofs.copying.copied.Reads as copied-reads
-use Rattle.trees.proofs.bad_row.Reads as bad-row-reads
 
--- src/testing.rt:88:18
 slice-aggregate-copied : tie.Need-slice-aggregate-copied
 slice-aggregate-copied c = search needs
 
--- src/testing.rt:88:5
 copied-requires : tie.Need-copied-requires
 copied-requires c κs = search needs
 
--- src/testing.rt:89:5
 array-write-tab : tie.Need-array-write-tab
 array-write-tab c = search needs
 
--- src/testing.rt:90:5
 bad-row-requires : tie.Need-bad-row-requires
 bad-row-requires c κs = search needs
 
--- src/testing.rt:83:1
 returns : tie.Need-returns
 returns c =
     let p = c .before .before .before in

@@ -1,74 +1,52 @@
-use mathlib.Core.Path.{_≡_, sym, ap, _∙_}
-use mathlib.Core.Bool.{Bool, true, false, not}
+-- `heading_number` gives the first of the tests of the first eight bytes and the length that holds.
+use mathlib.Core.Path.{sym, ap, _∙_}
 use native.Mathlib.Omega.{arith}
-use borrow.Author.Tests.{not-true, not-false}
 use Rattle.record.specs.Fields.{lengthOf}
 use Rattle.record.specs.Refusals.{noSize}
-use Rattle.record.proofs.Heading.{heading-1, heading-2, heading-3, heading-4, heading-5, heading-6, heading-0, sized}
+use Rattle.record.proofs.Heading.{heading-1, heading-2, heading-3, heading-4, heading-5, heading-6, heading-0, sized, passed, failed}
 use borrow.Author.Needs.{needs}
 use Rattle.record.proofs.testing.heading_number.Statement.{statement}
 use Rattle.record.proofs.testing.heading_number.Tie as tie
-use Rattle.record.proofs.testing.heading_number.Reads as reads
-use Rattle.record.proofs.testing.heading_number.Lts as lts
-use Rattle.record.proofs.copying.number.Reads as number-reads
-use Rattle.record.proofs.testing.is_hold.Reads as is-hold-reads
-use Rattle.record.proofs.testing.is_mark.Reads as is-mark-reads
-use Rattle.record.proofs.testing.no_size.Reads as no-size-reads
-
--- src/testing.rt:63:9
--- a test that was passed
-passed : {r b : Bool} → r ≡ b → not r ≡ false → b ≡ true
-passed e h = sym e ∙ not-false _ h
 
 returns : tie.Need-returns
 returns c = heading-1 _ (c .if1 .taken)
 
--- src/testing.rt:65:9
 is-mark-requires : tie.Need-is-mark-requires
 is-mark-requires c κs = search needs
 
--- src/testing.rt:66:9
 returns-2 : tie.Need-returns-2
 returns-2 c =
-    heading-2 _ (c .before .before .if1 .left) (sym (c .before .is-mark .ensures) ∙ not-true _ (c .if2 .taken))
+    heading-2 _ (c .before .before .if1 .left) (failed (c .before .is-mark .ensures) (c .if2 .taken))
 
--- src/testing.rt:68:8
 number-requires : tie.Need-number-requires
 number-requires c κs = search needs
 
--- src/testing.rt:69:9
 returns-3 : tie.Need-returns-3
 returns-3 c =
     let p = c .before .before in
     heading-3 _ (p .before .before .if1 .left) (passed (p .before .is-mark .ensures) (p .if2 .left))
     (λ e. c .if3 .taken (c .before .number .ensures ∙ e))
 
--- src/testing.rt:71:17
 shared-slice-read-is-hold : tie.Need-shared-slice-read-is-hold
 shared-slice-read-is-hold c = search needs
 
--- src/testing.rt:71:9
 is-hold-requires : tie.Need-is-hold-requires
 is-hold-requires c κs = search needs
 
--- src/testing.rt:72:9
 returns-4 : tie.Need-returns-4
 returns-4 c =
     let q = c .before .before .before in
     let p = q .before .before in
     heading-4 _ (p .before .before .if1 .left) (passed (p .before .is-mark .ensures) (p .if2 .left))
     (sym (q .before .number .ensures) ∙ q .if3 .left)
-    (sym (c .before .is-hold .ensures) ∙ not-true _ (c .if4 .taken))
+    (failed (c .before .is-hold .ensures) (c .if4 .taken))
 
--- src/testing.rt:74:9
 number-requires-2 : tie.Need-number-requires-2
 number-requires-2 c κs = search needs
 
--- src/testing.rt:75:8
 no-size-requires : tie.Need-no-size-requires
 no-size-requires c κs = search needs
 
--- src/testing.rt:76:9
 returns-5 : tie.Need-returns-5
 returns-5 c =
     let o = c .before .before .before in
@@ -79,21 +57,17 @@ returns-5 c =
     (passed (o .before .is-hold .ensures) (o .if4 .left))
     (ap noSize (sym (c .before .before .number2 .ensures)) ∙ sym (c .before .no-size .ensures) ∙ c .if5 .taken)
 
--- src/testing.rt:78:25
 cast-if6 : tie.Need-cast-if6
 cast-if6 c = search needs
 
--- src/testing.rt:78:19
 mul-if6 : tie.Need-mul-if6
 mul-if6 c = search needs
 
--- src/testing.rt:78:19
 sub-if6 : tie.Need-sub-if6
 sub-if6 c =
     let some = sized _ (sym (c .before .no-size .ensures) ∙ c .if5 .left) in
     omega arith
 
--- src/testing.rt:79:9
 returns-6 : tie.Need-returns-6
 returns-6 c =
     let o = c .before .before .before .before in
@@ -105,7 +79,6 @@ returns-6 c =
     (ap noSize (sym (c .before .before .before .number2 .ensures)) ∙ sym (c .before .before .no-size .ensures) ∙ c .before .if5 .left)
     (λ e. c .if6 .taken (e ∙ ap lengthOf (sym (c .before .before .before .number2 .ensures))))
 
--- src/testing.rt:59:1
 returns-7 : tie.Need-returns-7
 returns-7 c =
     let o = c .before .before .before .before in

@@ -1,3 +1,4 @@
+-- `is_hold` says whether a byte is one of the four letters.
 use Prim.Native.Nat.{ℕ}
 use mathlib.Core.Path.{_≡_}
 use mathlib.Core.Logic.{_⊎_, inl, inr}
@@ -6,8 +7,6 @@ use borrow.Author.Tests.{ne-eqb}
 use Rattle.record.specs.Refusals.{isHold}
 use Rattle.record.proofs.testing.is_hold.Statement.{statement}
 use Rattle.record.proofs.testing.is_hold.Tie as tie
-use Rattle.record.proofs.testing.is_hold.Reads as reads
-use Rattle.record.proofs.testing.is_hold.Lts as lts
 
 is-letter : (x : ℕ) → (x ≡ 66) ⊎ ((x ≡ 76) ⊎ ((x ≡ 78) ⊎ (x ≡ 82))) → true ≡ isHold x
 unfolding isHold
@@ -20,7 +19,6 @@ returns : tie.Need-returns
 unfolding isHold
 returns c = is-letter _ (c .match .keys1)
 
--- src/testing.rt:25:1
 returns-2 : tie.Need-returns-2
 unfolding isHold
 returns-2 c =

@@ -1,3 +1,4 @@
+-- `is_layout` says whether each byte is 0 or 1: it has passed such bytes only, or met another.
 use borrow.Author.Needs.{needs}
 use Prim.Native.Nat.{_-_, _≤_}
 use mathlib.Core.Path.{_≡_, sym}
@@ -9,8 +10,6 @@ use Rattle.record.specs.Refusals.{isLayout}
 use Rattle.record.proofs.Tests.{no-bytes, layout-more, layout-fails}
 use Rattle.record.proofs.testing.is_layout.Statement.{statement}
 use Rattle.record.proofs.testing.is_layout.Tie as tie
-use Rattle.record.proofs.testing.is_layout.Reads as reads
-use Rattle.record.proofs.testing.is_layout.Lts as lts
 
 abbrev Inv-loop : tie.InvT-loop
 Inv-loop bytes i₀ i = (i ≤ length bytes) × (isLayout (take i bytes) ≡ true)
@@ -18,36 +17,29 @@ Inv-loop bytes i₀ i = (i ≤ length bytes) × (isLayout (take i bytes) ≡ tru
 abbrev μ-loop : tie.MeasureT-loop
 μ-loop bytes i₀ i = length bytes - i
 
--- src/testing.rt:119:5
 loop-holds : tie.Need-loop-holds Inv-loop μ-loop
 loop-holds c = (omega arith, no-bytes)
 
--- src/testing.rt:120:16
 shared-slice-read-if1 : tie.Need-shared-slice-read-if1 Inv-loop μ-loop
 shared-slice-read-if1 c = search needs
 
--- src/testing.rt:121:13
 returns : tie.Need-returns Inv-loop μ-loop
 returns c =
     let s = c .before .before .before .before .args in
     sym (layout-fails (s .bytes .now) (c .before .before .before .loop .i) (omega arith) (c .if1 .taken))
 
--- src/testing.rt:123:9
 add-i : tie.Need-add-i Inv-loop μ-loop
 add-i c = search needs
 
--- src/testing.rt:119:5
 loop-less : tie.Need-loop-less Inv-loop μ-loop
 loop-less c = search needs
 
--- src/testing.rt:119:5
 loop-again : tie.Need-loop-again Inv-loop μ-loop
 loop-again c =
     let s = c .before .before .before .before .args in
     let l = c .before .before .before .loop in
     (omega arith, layout-more (s .bytes .now) (l .i) (omega arith) (l .inv .1) (c .if1 .left))
 
--- src/testing.rt:115:1
 returns-2 : tie.Need-returns-2 Inv-loop μ-loop
 returns-2 c =
     let s = c .before .before .args in

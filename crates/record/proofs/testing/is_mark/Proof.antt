@@ -1,35 +1,28 @@
+-- `is_mark` says whether the first three bytes are `TGP`.
 use mathlib.Core.Path.{refl}
 use Rattle.record.specs.Refusals.{isMark}
 use borrow.Author.Tests.{eq-eqb, ne-eqb}
 use borrow.Author.Needs.{needs}
 use Rattle.record.proofs.testing.is_mark.Statement.{statement}
 use Rattle.record.proofs.testing.is_mark.Tie as tie
-use Rattle.record.proofs.testing.is_mark.Reads as reads
-use Rattle.record.proofs.testing.is_mark.Lts as lts
 
--- src/testing.rt:39:8
 shared-slice-read-if1 : tie.Need-shared-slice-read-if1
 shared-slice-read-if1 c = search needs
 
--- src/testing.rt:40:9
 returns : tie.Need-returns
 unfolding isMark
 returns c = simp (ne-eqb _ _ (c .if1 .taken))
 
--- src/testing.rt:42:8
 shared-slice-read-if2 : tie.Need-shared-slice-read-if2
 shared-slice-read-if2 c = search needs
 
--- src/testing.rt:43:9
 returns-2 : tie.Need-returns-2
 unfolding isMark
 returns-2 c = simp (eq-eqb _ _ (c .before .before .if1 .left), ne-eqb _ _ (c .if2 .taken))
 
--- src/testing.rt:45:5
 shared-slice-read-result : tie.Need-shared-slice-read-result
 shared-slice-read-result c = search needs
 
--- src/testing.rt:35:1
 returns-3 : tie.Need-returns-3
 unfolding isMark
 returns-3 c = rw (eq-eqb _ _ (c .before .before .before .if1 .left), eq-eqb _ _ (c .before .if2 .left)) refl

@@ -1,3 +1,4 @@
+-- `one_to_one_at` says whether the links that stand in a record are one-to-one.
 use mathlib.Core.Path.{ap, _∙_}
 use lib.ListN.{take}
 use Rattle.record.specs.Fields.{numbers}
@@ -7,24 +8,16 @@ use Rattle.record.proofs.Tables.{take-sets}
 use borrow.Author.Needs.{needs}
 use Rattle.record.proofs.testing.one_to_one_at.Statement.{statement}
 use Rattle.record.proofs.testing.one_to_one_at.Tie as tie
-use Rattle.record.proofs.testing.one_to_one_at.Reads as reads
-use Rattle.record.proofs.testing.one_to_one_at.Lts as lts
-use Rattle.record.proofs.copying.numbers_out.Reads as numbers-out-reads
-use Rattle.record.proofs.links.one_to_one.Reads as one-to-one-reads
 
--- src/testing.rt:100:27
 slice-aggregate-numbers-out : tie.Need-slice-aggregate-numbers-out
 slice-aggregate-numbers-out c = search needs
 
--- src/testing.rt:100:5
 numbers-out-requires : tie.Need-numbers-out-requires
 numbers-out-requires c κs = search needs
 
--- src/testing.rt:101:5
 one-to-one-requires : tie.Need-one-to-one-requires
 one-to-one-requires c κs = search needs
 
--- src/testing.rt:94:1
 returns : tie.Need-returns
 returns c =
     let p = c .before .before .before in

@@ -1,3 +1,4 @@
+-- `one_to_one_in` says whether the links of a list are one-to-one.
 use mathlib.Core.Path.{ap, _∙_}
 use lib.ListN.{take}
 use Rattle.record.specs.Refusals.{oneToOne}
@@ -5,24 +6,16 @@ use Rattle.record.proofs.Tables.{take-sets}
 use borrow.Author.Needs.{needs}
 use Rattle.record.proofs.testing.one_to_one_in.Statement.{statement}
 use Rattle.record.proofs.testing.one_to_one_in.Tie as tie
-use Rattle.record.proofs.testing.one_to_one_in.Reads as reads
-use Rattle.record.proofs.testing.one_to_one_in.Lts as lts
-use Rattle.record.proofs.copying.copied.Reads as copied-reads
-use Rattle.record.proofs.links.one_to_one.Reads as one-to-one-reads
 
--- src/testing.rt:110:18
 slice-aggregate-copied : tie.Need-slice-aggregate-copied
 slice-aggregate-copied c = search needs
 
--- src/testing.rt:110:5
 copied-requires : tie.Need-copied-requires
 copied-requires c κs = search needs
 
--- src/testing.rt:111:5
 one-to-one-requires : tie.Need-one-to-one-requires
 one-to-one-requires c κs = search needs
 
--- src/testing.rt:105:1
 returns : tie.Need-returns
 returns c =
     let p = c .before .before .before in

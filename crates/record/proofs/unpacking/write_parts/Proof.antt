@@ -1,3 +1,4 @@
+-- `write_parts` writes each part of the record to the first places of its buffer.
 use Prim.Native.Nat.{_-_}
 use mathlib.Core.Path.{_≡_, ap, _∙_}
 use native.Mathlib.Nat.{add-sub-cancel-left}
@@ -8,124 +9,91 @@ use Rattle.record.specs.Fields.{partsOf, bytes, leftLayoutAt, rightLayou
 use borrow.Author.Needs.{needs}
 use Rattle.record.proofs.unpacking.write_parts.Statement.{statement}
 use Rattle.record.proofs.unpacking.write_parts.Tie as tie
-use Rattle.record.proofs.unpacking.write_parts.Reads as reads
-use Rattle.record.proofs.unpacking.write_parts.Lts as lts
-use Rattle.record.proofs.copying.bytes_in.Reads as bytes-in-reads
-use Rattle.record.proofs.copying.numbers_out.Reads as numbers-out-reads
 
--- src/unpacking.rt:85:13
 sub-m : tie.Need-sub-m
 sub-m c = search needs
 
--- src/unpacking.rt:86:18
 mul-at : tie.Need-mul-at
 mul-at c = search needs
 
--- src/unpacking.rt:86:14
 add-at : tie.Need-add-at
 add-at c = search needs
 
--- src/unpacking.rt:86:26
 mul-at-2 : tie.Need-mul-at-2
 mul-at-2 c = search needs
 
--- src/unpacking.rt:86:14
 add-at-2 : tie.Need-add-at-2
 add-at-2 c = search needs
 
--- src/unpacking.rt:87:16
 add-last : tie.Need-add-last
 add-last c = search needs
 
--- src/unpacking.rt:88:23
 mul-numbers-out : tie.Need-mul-numbers-out
 mul-numbers-out c = search needs
 
--- src/unpacking.rt:88:5
 numbers-out-requires : tie.Need-numbers-out-requires
 numbers-out-requires c κs = search needs
 
--- src/unpacking.rt:89:24
 mul-numbers-out-2 : tie.Need-mul-numbers-out-2
 mul-numbers-out-2 c = search needs
 
--- src/unpacking.rt:89:20
 add-numbers-out : tie.Need-add-numbers-out
 add-numbers-out c = search needs
 
--- src/unpacking.rt:89:31
 mul-numbers-out-3 : tie.Need-mul-numbers-out-3
 mul-numbers-out-3 c = search needs
 
--- src/unpacking.rt:89:5
 numbers-out-requires-2 : tie.Need-numbers-out-requires-2
 numbers-out-requires-2 c κs = search needs
 
--- src/unpacking.rt:90:24
 mul-numbers-out-4 : tie.Need-mul-numbers-out-4
 mul-numbers-out-4 c = search needs
 
--- src/unpacking.rt:90:20
 add-numbers-out-2 : tie.Need-add-numbers-out-2
 add-numbers-out-2 c = search needs
 
--- src/unpacking.rt:90:5
 numbers-out-requires-3 : tie.Need-numbers-out-requires-3
 numbers-out-requires-3 c κs = search needs
 
--- src/unpacking.rt:91:14
 sub-bytes-in : tie.Need-sub-bytes-in
 sub-bytes-in c = search needs
 
--- src/unpacking.rt:91:14
 part-bytes-in-start : tie.Need-part-bytes-in-start
 part-bytes-in-start c = search needs
 
--- src/unpacking.rt:91:14
 part-bytes-in-end : tie.Need-part-bytes-in-end
 part-bytes-in-end c = search needs
 
--- src/unpacking.rt:91:5
 bytes-in-requires : tie.Need-bytes-in-requires
 bytes-in-requires c κs = search needs
 
--- src/unpacking.rt:92:14
 sub-bytes-in-2 : tie.Need-sub-bytes-in-2
 sub-bytes-in-2 c = search needs
 
--- src/unpacking.rt:92:14
 part-bytes-in-start-2 : tie.Need-part-bytes-in-start-2
 part-bytes-in-start-2 c = search needs
 
--- src/unpacking.rt:92:14
 part-bytes-in-end-2 : tie.Need-part-bytes-in-end-2
 part-bytes-in-end-2 c = search needs
 
--- src/unpacking.rt:92:5
 bytes-in-requires-2 : tie.Need-bytes-in-requires-2
 bytes-in-requires-2 c κs = search needs
 
--- src/unpacking.rt:66:1
 same-length : tie.Need-same-length
 same-length c = search needs
 
--- src/unpacking.rt:66:1
 same-length-2 : tie.Need-same-length-2
 same-length-2 c = search needs
 
--- src/unpacking.rt:66:1
 same-length-3 : tie.Need-same-length-3
 same-length-3 c = search needs
 
--- src/unpacking.rt:66:1
 same-length-4 : tie.Need-same-length-4
 same-length-4 c = search needs
 
--- src/unpacking.rt:66:1
 same-length-5 : tie.Need-same-length-5
 same-length-5 c = search needs
 
--- src/unpacking.rt:66:1
 returns : tie.Need-returns
 unfolding partsOf
 returns c =
@@ -137,10 +105,9 @@ returns c =
     let z = v₁ .before .before .before .before .before .before .before .before in
     let a = z .args in
     let h = z .pre .0 in
+    let d = add-sub-cancel-left (leftLayoutAt (a .n)) (a .n - 1) in
     let e : length (a .s .now) - rightLayoutAt (a .n) ≡ a .n - 1 = omega arith in
-    let left-layout =
-    v₄ .bytes-in .ensures
-    ∙ ap (λ k. sets (a .leftlayout .now) 0 (bytes (a .s .now) (leftLayoutAt (a .n)) k)) (add-sub-cancel-left (leftLayoutAt (a .n)) (a .n - 1)) in
+    let left-layout = v₄ .bytes-in .ensures ∙ ap (λ k. sets (a .leftlayout .now) 0 (bytes (a .s .now) (leftLayoutAt (a .n)) k)) d in
     let right-layout = v₅ .bytes-in2 .ensures ∙ ap (λ k. sets (a .rightlayout .now) 0 (bytes (a .s .now) (rightLayoutAt (a .n)) k)) e in
     (v₁ .numbers-out .ensures, (v₂ .numbers-out2 .ensures, (v₃ .numbers-out3 .ensures, (left-layout, right-layout))))
 

@@ -1,0 +1,133 @@
+-- Packing's refusal, test by test; what parts with the right lengths make; and from what the call found to its statement.
+use Prim.Native.Nat.{ℕ, _+_, _-_, _*_, _≤_, _<_}
+use mathlib.Core.Path.{_≡_, refl, sym, ap, _∙_}
+use mathlib.Core.Logic.{_≢_}
+use mathlib.Core.Bool.{true, not}
+use mathlib.Core.List.{List, _++_}
+use native.Mathlib.Omega.{arith}
+use borrow.Author.Tests.{lt-ltb, le-ltb, eq-eqb, eqb-true, ltb-false}
+use lib.Dec.{eqb, ltb}
+use lib.ListN.{length, length-append}
+use lib.Seq.{sets}
+use Rattle.record.specs.Fields.{split, rightAt, linksAt, leftLayoutAt, rightLayoutAt, lengthOf, Parts, given, opening, packed, Shaped}
+use Rattle.record.specs.Refusals.{isHold, noSize, contents, shape, shapeOf, packing}
+use Rattle.record.specs.Calls.{refused, Packs}
+use Rattle.record.proofs.Heading.{sized, unsized, none-first, not-no}
+use Rattle.record.proofs.Stores.{sets-append, sets-front, length-split}
+use Rattle.record.proofs.Acceptance.{else-first, else-second, none-both}
+use Rattle.record.proofs.Outcomes.{lent-refused, lent-accepted}
+
+-- parts whose lists have the right lengths
+abbrev pub ShapedParts : Parts → Type 0
+ShapedParts P = Shaped (P .size) (P .left-rows) (P .right-rows) (P .links) (P .left-layout) (P .right-layout)
+
+-- where the hold, n and the lengths pass
+pub shape-some : (h n l r p ll rl : ℕ) → shape h n l r p ll rl ≡ 0 → 1 ≤ n
+unfolding shape
+shape-some h n l r p ll rl e =
+    sized n (none-first (noSize n) 5 _ (omega arith) (none-first (not (isHold h)) 4 _ (omega arith) e .1) .0) .0
+
+pub shape-good : (P : Parts) → shapeOf P ≡ 0 → (isHold (P .hold) ≡ true) × ShapedParts P
+unfolding shape
+shape-good P e =
+    let n = P .size in
+    let t₁ = none-first (not (isHold (P .hold))) 4 _ (omega arith) e in
+    let t₂ = none-first (noSize n) 5 _ (omega arith) (t₁ .1) in
+    let t₃ = none-first (not (eqb (length (P .left-rows)) (2 * (n - 1)))) 6 _ (omega arith) (t₂ .1) in
+    let t₄ = none-first (not (eqb (length (P .right-rows)) (2 * (n - 1)))) 6 _ (omega arith) (t₃ .1) in
+    let t₅ = none-first (not (eqb (length (P .links)) n)) 6 _ (omega arith) (t₄ .1) in
+    let t₆ = none-first (not (eqb (length (P .left-layout)) (n - 1))) 6 _ (omega arith) (t₅ .1) in
+    let t₇ = none-first (not (eqb (length (P .right-layout)) (n - 1))) 6 0 (omega arith) (t₆ .1) in
+    let z = sized n (t₂ .0) in (
+      not-no _ (t₁ .0),
+      record {
+        some = z .0;
+        most = z .1;
+        left-long = eqb-true _ _ (not-no _ (t₃ .0));
+        right-long = eqb-true _ _ (not-no _ (t₄ .0));
+        links-long = eqb-true _ _ (not-no _ (t₅ .0));
+        left-layout-long = eqb-true _ _ (not-no _ (t₆ .0));
+        right-layout-long = eqb-true _ _ (not-no _ (t₇ .0));
+      },
+    )
+
+pub shape-0 : (P : Parts) → isHold (P .hold) ≡ true → ShapedParts P → shapeOf P ≡ 0
+unfolding shape
+shape-0 P h g =
+    rw (
+      h,
+      unsized (P .size) (g .some) (g .most),
+      eq-eqb _ _ (g .left-long),
+      eq-eqb _ _ (g .right-long),
+      eq-eqb _ _ (g .links-long),
+      eq-eqb _ _ (g .left-layout-long),
+      eq-eqb _ _ (g .right-layout-long),
+    ) refl
+
+-- ---- the bytes that parts make
+
+pub length-packed : (P : Parts) → ShapedParts P → length (packed P) ≡ lengthOf (P .size)
+unfolding packed
+length-packed P g = simp (length-append, length-split) (omega arith)
+
+-- a run of stores and a second one after it
+sets-then : (vs ws l : List ℕ) (at next : ℕ) → at + length vs ≡ next → sets l at (vs ++ ws) ≡ sets (sets l at vs) next ws
+sets-then vs ws l at next e = sets-append vs ws l at ∙ ap (λ k. sets (sets l at vs) k ws) e
+
+-- stored part after part, each where the one before it ends
+pub stored : (h n : ℕ) (left right links left-layout right-layout : List ℕ) → Shaped n left right links left-layout right-layout →
+    (l : List ℕ) {o₀ o₁ o₂ o₃ o₄ o₅ : List ℕ} → o₀ ≡ sets l 0 (opening h n) → o₁ ≡ sets o₀ 8 (split left) →
+    o₂ ≡ sets o₁ (rightAt n) (split right) → o₃ ≡ sets o₂ (linksAt n) (split links) →
+    o₄ ≡ sets o₃ (leftLayoutAt n) left-layout → o₅ ≡ sets o₄ (rightLayoutAt n) right-layout →
+    o₅ ≡ sets l 0 (packed (given h n left right links left-layout right-layout))
+unfolding packed
+stored h n left right links left-layout right-layout g l e₀ e₁ e₂ e₃ e₄ e₅ =
+    let layouts = left-layout ++ right-layout in
+    let from-links = split links ++ layouts in
+    let from-right = split right ++ from-links in
+    let l₀ = sets l 0 (opening h n) in
+    let l₁ = sets l₀ 8 (split left) in
+    let l₂ = sets l₁ (rightAt n) (split right) in
+    let l₃ = sets l₂ (linksAt n) (split links) in
+    rw (e₅, e₄, e₃, e₂, e₁, e₀) (sym (sets-then (opening h n) (split left ++ from-right) l 0 8 refl
+    ∙ sets-then (split left) from-right l₀ 8 (rightAt n) (omega (arith, length-split left))
+    ∙ sets-then (split right) from-links l₁ (rightAt n) (linksAt n) (omega (arith, length-split right))
+    ∙ sets-then (split links) layouts l₂ (linksAt n) (leftLayoutAt n) (omega (arith, length-split links))
+    ∙ sets-then left-layout right-layout l₃ (leftLayoutAt n) (rightLayoutAt n) (omega arith)))
+
+-- ---- the call
+
+module _ (P : Parts) (out : List ℕ) where
+  pub packing-shape : shapeOf P ≢ 0 → shapeOf P ≡ packing P out
+  unfolding packing
+  packing-shape h = sym (else-first (shapeOf P) _ h)
+
+  pub packing-contents : shapeOf P ≡ 0 → contents P ≢ 0 → contents P ≡ packing P out
+  unfolding packing
+  packing-contents s h = sym (else-second (shapeOf P) _ s ∙ else-first (contents P) _ h)
+
+  pub packing-14 : shapeOf P ≡ 0 → contents P ≡ 0 → length out < lengthOf (P .size) → 14 ≡ packing P out
+  unfolding packing
+  packing-14 s c h = sym (else-second (shapeOf P) _ s ∙ else-second (contents P) _ c ∙ rw (lt-ltb _ _ h) refl)
+
+  pub packing-0 : shapeOf P ≡ 0 → contents P ≡ 0 → lengthOf (P .size) ≤ length out → 0 ≡ packing P out
+  unfolding packing
+  packing-0 s c h = sym (else-second (shapeOf P) _ s ∙ else-second (contents P) _ c ∙ rw (le-ltb _ _ h) refl)
+
+  -- where packing accepts, every test passed
+  pub packing-good : packing P out ≡ 0 → (shapeOf P ≡ 0) × (contents P ≡ 0) × (lengthOf (P .size) ≤ length out)
+  unfolding packing
+  packing-good e =
+      let s = none-both (shapeOf P) _ e in
+      let t = none-both (contents P) _ (s .1) in
+      (s .0, t .0, ltb-false _ _ (none-first (ltb (length out) (lengthOf (P .size))) 14 0 (omega arith) (t .1) .0))
+
+  pub pack-refused : {k : ℕ} → k ≡ packing P out → k ≢ 0 → Packs P out (record { number = k }) out
+  pack-refused {k} e h = record { answers = ap refused e; leaves = rw (← e) (lent-refused k (packed P) out h) }
+
+  pub pack-accepted : {out′ : List ℕ} → 0 ≡ packing P out → out′ ≡ sets out 0 (packed P) → Packs P out (record { number = 0 }) out′
+  pack-accepted e w =
+      let z = packing-good (sym e) in
+      let g = shape-good P (z .0) .1 in
+      let h : length (packed P) ≤ length out = omega (arith, length-packed P g, z .2) in
+      record { answers = ap refused e; leaves = w ∙ sets-front out (packed P) h ∙ lent-accepted (packing P out) (packed P) out (sym e) }

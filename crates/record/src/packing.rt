@@ -1,0 +1,208 @@
+// Packing: parts, as numbers and lists, into a buffer.
+ghost use mathlib.Core.Path.{_≡_};
+ghost use Prim.Native.Nat.{ℕ, _≤_};
+ghost use lib.ListN.{length};
+ghost use lib.Seq.{sets};
+ghost use Rattle.record.specs.Calls.{Packs};
+ghost use Rattle.record.specs.Fields.{given, lengthOf, opening, packed, Shaped};
+ghost use Rattle.record.specs.Refusals.{contents, shape};
+use crate::copying::bytes_in;
+use crate::copying::numbers_in;
+use crate::refusal::HOLD;
+use crate::refusal::LAYOUT;
+use crate::refusal::LEFT_ROW;
+use crate::refusal::LENGTH;
+use crate::refusal::LINKS;
+use crate::refusal::RIGHT_ROW;
+use crate::refusal::ROOM;
+use crate::refusal::Refusal;
+use crate::refusal::SIZE;
+use crate::testing::bad_row_in;
+use crate::testing::is_hold;
+use crate::testing::is_layout;
+use crate::testing::no_size;
+use crate::testing::one_to_one_in;
+
+// 4 to 6 for the hold, n and the lengths of the five lists, or 0.
+fn shape_number(
+    hold: u8,
+    n: u16,
+    left: usize,
+    right: usize,
+    links: usize,
+    leftlayout: usize,
+    rightlayout: usize,
+) -> u16
+    ensures { λ r. ⌜ r ≡ shape hold n left right links leftlayout rightlayout ⌝ }
+{
+    if !is_hold(hold) {
+        return HOLD;
+    }
+    if no_size(n) {
+        return SIZE;
+    }
+    let m = n as usize - 1;
+    if left != 2 * m {
+        return LENGTH;
+    }
+    if right != 2 * m {
+        return LENGTH;
+    }
+    if links != n as usize {
+        return LENGTH;
+    }
+    if leftlayout != m {
+        return LENGTH;
+    }
+    if rightlayout != m {
+        return LENGTH;
+    }
+    0
+}
+
+// 7 to 10 for lists of the right lengths, or 0; the hold plays no part.
+fn lists_number(
+    n: u16,
+    left: &[u16],
+    right: &[u16],
+    links: &[u16],
+    leftlayout: &[u8],
+    rightlayout: &[u8],
+) -> u16
+    requires { ⌜ Shaped n (now left) (now right) (now links) (now leftlayout) (now rightlayout) ⌝ }
+    ensures { λ r. ⌜
+        ((h : ℕ) →
+        r ≡
+        contents
+        (given
+        h
+        n
+        (now (left .entry))
+        (now (right .entry))
+        (now (links .entry))
+        (now (leftlayout .entry))
+        (now (rightlayout .entry))))
+        ⌝ }
+{
+    if bad_row_in(left, n) != 0 {
+        return LEFT_ROW;
+    }
+    if bad_row_in(right, n) != 0 {
+        return RIGHT_ROW;
+    }
+    if !one_to_one_in(links, n) {
+        return LINKS;
+    }
+    if !is_layout(leftlayout) {
+        return LAYOUT;
+    }
+    if !is_layout(rightlayout) {
+        return LAYOUT;
+    }
+    0
+}
+
+// Writes bytes 0 to 7: the mark, version 1, the hold and n.
+fn write_opening(hold: u8, n: u16, out: &mut [u8])
+    requires { ⌜ 8 ≤ length (now out) ⌝ }
+    ensures { λ _. ⌜ now (out .exit) ≡ sets (now (out .entry)) 0 (opening hold n) ⌝ }
+{
+    out[0] = b'T';
+    out[1] = b'G';
+    out[2] = b'P';
+    out[3] = 0;
+    out[4] = 1;
+    out[5] = hold;
+    out[6] = (n / 256) as u8;
+    out[7] = (n % 256) as u8;
+}
+
+// Writes the record with these parts to the buffer's first places.
+fn write_record(
+    hold: u8,
+    n: u16,
+    left: &[u16],
+    right: &[u16],
+    links: &[u16],
+    leftlayout: &[u8],
+    rightlayout: &[u8],
+    out: &mut [u8],
+)
+    requires { ⌜ Shaped n (now left) (now right) (now links) (now leftlayout) (now rightlayout) ⌝ }
+    requires { ⌜ lengthOf n ≤ length (now out) ⌝ }
+    ensures { λ _. ⌜
+        now (out .exit) ≡
+        sets
+        (now (out .entry))
+        0
+        (packed
+        (given
+        hold
+        n
+        (now (left .entry))
+        (now (right .entry))
+        (now (links .entry))
+        (now (leftlayout .entry))
+        (now (rightlayout .entry))))
+        ⌝ }
+{
+    let k = n as usize;
+    let m = k - 1;
+    let at = 8 + 8 * m + 2 * k;
+    write_opening(hold, n, out);
+    numbers_in(left, out, 8);
+    numbers_in(right, out, 8 + 4 * m);
+    numbers_in(links, out, 8 + 8 * m);
+    bytes_in(leftlayout, out, at);
+    bytes_in(rightlayout, out, at + m);
+}
+
+// Packs any parts: writes the record that they make to the buffer's first 12n-2 places, if the parts are good and
+// the buffer has the places; else it answers the refusal and writes nothing. Rows are flat, upper then lower.
+pub fn pack(
+    hold: u8,
+    n: u16,
+    left: &[u16],
+    right: &[u16],
+    links: &[u16],
+    leftlayout: &[u8],
+    rightlayout: &[u8],
+    out: &mut [u8],
+) -> Refusal
+    ensures { λ r. ⌜
+        Packs
+        (given
+        hold
+        n
+        (now (left .entry))
+        (now (right .entry))
+        (now (links .entry))
+        (now (leftlayout .entry))
+        (now (rightlayout .entry)))
+        (now (out .entry))
+        r
+        (now (out .exit))
+        ⌝ }
+{
+    let k = shape_number(
+        hold,
+        n,
+        left.len(),
+        right.len(),
+        links.len(),
+        leftlayout.len(),
+        rightlayout.len(),
+    );
+    if k != 0 {
+        return Refusal { number: k };
+    }
+    let l = lists_number(n, left, right, links, leftlayout, rightlayout);
+    if l != 0 {
+        return Refusal { number: l };
+    }
+    if out.len() < 12 * (n as usize) - 2 {
+        return Refusal { number: ROOM };
+    }
+    write_record(hold, n, left, right, links, leftlayout, rightlayout, out);
+    Refusal { number: 0 }
+}

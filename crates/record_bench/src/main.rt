@@ -1,0 +1,16 @@
+// Every refusal of the calls on records, on both sides of its limit: a line for each case, with the number found.
+mod checking;
+mod good;
+mod largest;
+mod packing;
+mod printing;
+mod unpacking;
+
+fn main() {
+    checking::headings();
+    checking::contents();
+    checking::first_faults();
+    largest::sizes();
+    packing::cases();
+    unpacking::cases();
+}
