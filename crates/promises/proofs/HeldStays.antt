@@ -87,13 +87,10 @@ held-stays = record {
   free = λ s side answer s′ o. either s (relaid s (freedLayouts s side)) s′ (freeing s side) (o .leaves) (free-keeps s side);
   run = λ s allowance answer s′ o. either s (relaid s (ranTo s allowance .last)) s′ (running s allowance) (o .leaves) (run-keeps s allowance);
   free-refused = λ s side answer s′ o h.
-      let k = λ z. h (ap (λ a. a .refusal .number) (o .answers) ∙ z) in
-      (o .leaves ∙ rw (ne-eqb (freeing s side) 0 k) refl,
-      ap (λ a. a .before) (o .answers) ∙ rw (ne-eqb (freeing s side) 0 k) refl,
-      ap (λ a. a .after) (o .answers) ∙ rw (ne-eqb (freeing s side) 0 k) refl);
+      let e = ne-eqb (freeing s side) 0 (λ z. h (ap (λ a. a .refusal .number) (o .answers) ∙ z)) in
+      (o .leaves ∙ rw e refl, ap (λ a. a .before) (o .answers) ∙ rw e refl, ap (λ a. a .after) (o .answers) ∙ rw e refl);
   run-refused = λ s allowance answer s′ o h.
-      let k = λ z. h (ap (λ a. a .refusal .number) (o .answers) ∙ z) in
-      let e = ne-eqb (running s allowance) 0 k in
+      let e = ne-eqb (running s allowance) 0 (λ z. h (ap (λ a. a .refusal .number) (o .answers) ∙ z)) in
       (o .leaves ∙ rw e refl,
       ap (λ a. a .first) (o .answers) ∙ rw e refl,
       ap (λ a. a .last) (o .answers) ∙ rw e refl,

@@ -4,3 +4,5 @@ pub mod RecordRefused
 pub mod SetHoldOnly
 pub mod RecordBench
 pub mod RecordRoundTrip
+pub mod Demand2
+pub mod Demand3

@@ -11,9 +11,9 @@ use Rattle.record.specs.Fields.{holdOf, sizeOf, rightAt, linksAt, leftLayoutAt,
 use Rattle.record.specs.Fields.{Parts, given, parts, partsOf, packed}
 use Rattle.record.specs.Refusals.{refusal, room, unpacking, packing}
 use Rattle.record.specs.Calls.{lent, Packs}
-use Rattle.record.proofs.Stores.{length-numbers}
+use Rattle.record.proofs.Stores.{length-numbers, length-bytes}
 use Rattle.record.proofs.Acceptance.{accepted-sized, Room, room-0}
-use Rattle.record.proofs.Outcomes.{lent-accepted, length-bytes, unpack-second, unpack-record}
+use Rattle.record.proofs.Outcomes.{lent-accepted, unpack-second, unpack-record}
 use Rattle.record.proofs.Packed.{shape-good, packing-good, length-packed}
 use Rattle.record.proofs.RoundTrip.{size-packed, parts-packed, packed-accepted, packed-parts, parts-accepted}
 use Rattle.promises.specs.RecordOutcomes.{UnpackOutcome, UnpacksTo}

@@ -1,0 +1,89 @@
+-- Orders are the layouts' and compatible; counts are the definition's; the freed side has the fewest crossings.
+use Prim.Native.Nat.{ℕ, _≤_, _<_}
+use mathlib.Core.Path.{_≡_, refl, sym, ap, _∙_, subst}
+use mathlib.Core.Logic.{_↔_}
+use mathlib.Core.List.{List, _++_}
+use borrow.Author.Tests.{eq-eqb}
+use lib.ListN.{length, take, drop}
+use lib.Seq.{take-at}
+use Rattle.tanglegram.specs.Tree.{Tree, EachRow}
+use Rattle.tanglegram.specs.Order.{order, Compatible, byte, flip}
+use Rattle.tanglegram.specs.Crossings.{between, own, ownAt}
+use Rattle.tanglegram.specs.Run.{Side, left, right, other}
+use Rattle.tanglegram.specs.Table.{Layouts, layout, put, seen, crossings, free}
+use Rattle.tanglegram.proofs.Lists.{all-length}
+use Rattle.tanglegram.proofs.Tree.{eachRow-map}
+use Rattle.tanglegram.proofs.Order.{order-compatible}
+use Rattle.tanglegram.proofs.Freeing.{every-layout}
+use Rattle.tanglegram.proofs.Table.{free-exactly, free-least, free-other}
+use Rattle.record.specs.Fields.{sizeOf, partsOf}
+use Rattle.record.specs.Refusals.{refusal}
+use Rattle.record.specs.Meaning.{tableOf, layoutsOf, relaid}
+use Rattle.record.proofs.Meaning.{accepted-fair, accepted-fits}
+use Rattle.table.specs.Sides.{sideOf, Given}
+use Rattle.table.specs.Refusals.{ordering, freeing}
+use Rattle.table.specs.Calls.{shownOrder, shownCount, freedLayouts, Orders, Frees}
+use Rattle.table.specs.declared.answers.Freed.{Freed}
+use Rattle.table.proofs.AsItStands.{given, side-perm}
+use Rattle.table.proofs.Outcomes.{ordering-good}
+use Rattle.table.proofs.Relaying.{freed-layouts}
+use Rattle.table.proofs.Turns.{freeing-good, freed-count}
+use Rattle.promises.specs.Demand2 as Demand2
+
+-- what an accepted freeing leaves
+module _ (s : List ℕ) (side : ℕ) (answer : Freed) (s′ : List ℕ) (o : Frees s side answer s′) (z : answer .refusal .number ≡ 0) where
+  none : freeing s side ≡ 0
+  none = sym (ap (λ a. a .refusal .number) (o .answers)) ∙ z
+
+  ok : refusal s ≡ 0
+  ok = freeing-good s side none .1
+
+  left-behind : s′ ≡ relaid s (freedLayouts s side)
+  left-behind = o .leaves ∙ rw (eq-eqb (freeing s side) 0 none) refl
+
+  laid : layoutsOf s′ ≡ freedLayouts s side
+  laid = ap layoutsOf left-behind ∙ freed-layouts s (sizeOf s) (given s ok) (sideOf side)
+
+  counted-after : answer .after ≡ crossings (tableOf s) (freedLayouts s side)
+  counted-after = ap (λ a. a .after) (o .answers) ∙ rw (eq-eqb (freeing s side) 0 none) refl
+
+-- row i's byte in `new` is the other one exactly if that makes its own crossings fewer
+abbrev TurnedIff : List ℕ → Side → Layouts → ℕ → Tree → Tree → Type 0
+TurnedIff s side new i u l =
+    let see = seen (tableOf s) (layoutsOf s) side in
+    let old = layout (layoutsOf s) side in
+    (byte (layout new side) i ≡ flip (byte old i)) ↔ (own (between see u l) (between see l u) (flip (byte old i)) < ownAt see old i u l)
+
+pub demand2 : Demand2.Demand2
+unfolding partsOf
+demand2 = record {
+  order-given = λ s side out answer out′ o z.
+      let e = sym (ap (λ a. a .number) (o .answers)) ∙ z in
+      let g = ordering-good s side out e in
+      let shown = shownOrder s (sideOf side) in
+      let long = all-length (sizeOf s) shown (side-perm s (sizeOf s) (given s (g .1)) (sideOf side)) in
+      let first = ap (take (sizeOf s)) (o .leaves ∙ rw (eq-eqb (ordering s side out) 0 e) refl)
+          ∙ take-at shown (drop (length shown) out) (sizeOf s) long in
+      (first, subst (Compatible (tableOf s .tree (sideOf side))) (sym first)
+      (order-compatible (layout (layoutsOf s) (sideOf side)) (tableOf s .tree (sideOf side))));
+  count-published = λ s answer o z.
+      let e = sym (ap (λ a. a .refusal .number) (o .answers)) ∙ z in
+      ap (λ a. a .count) (o .answers) ∙ rw (eq-eqb (refusal s) 0 e) refl;
+  freed-fewest = λ s side answer s′ o z.
+      let n = none s side answer s′ o z in
+      let a = ok s side answer s′ o z in
+      let after = counted-after s side answer s′ o z in
+      (ap (λ x. x .before) (o .answers) ∙ rw (eq-eqb (freeing s side) 0 n) refl,
+      after ∙ sym (ap shownCount (left-behind s side answer s′ o z) ∙ freed-count s side (given s a)),
+      λ any.
+          subst (λ k. k ≤ crossings (tableOf s) (put (sideOf side) any (layoutsOf s))) (sym after)
+          (free-least (tableOf s) (accepted-fair s a) (sideOf side) (layoutsOf s) (accepted-fits s a) any
+          (every-layout (layout (layoutsOf s) (sideOf side)) any)));
+  turned-exactly = λ s side answer s′ o z.
+      let a = ok s side answer s′ o z in
+      let l = laid s side answer s′ o z in
+      (subst (λ L. EachRow (TurnedIff s (sideOf side) L) (tableOf s .tree (sideOf side))) (sym l)
+      (eachRow-map (tableOf s .tree (sideOf side)) (λ i u v h. (λ e. h .0 e .1, λ lt. h .1 (refl, lt)))
+      (free-exactly (tableOf s) (accepted-fair s a) (sideOf side) (layoutsOf s) (accepted-fits s a))),
+      ap (λ L. layout L (other (sideOf side))) l ∙ free-other (tableOf s) (accepted-fair s a) (sideOf side) (layoutsOf s));
+}

@@ -1,0 +1,83 @@
+-- A run of an accepted record that is not held keeps demand 3.
+use Prim.Native.Nat.{ℕ, suc, _+_, _-_, _≤_, _<_}
+use mathlib.Core.Path.{_≡_, refl, sym, ap, _∙_, subst}
+use mathlib.Core.Bool.{Bool, true, false}
+use mathlib.Core.List.{List}
+use native.Mathlib.Omega.{arith}
+use borrow.Author.Tests.{eq-eqb}
+use lib.ListN.{length}
+use Rattle.tanglegram.specs.Lists.{bit}
+use Rattle.tanglegram.specs.Run.{Side, left, right, after}
+use Rattle.tanglegram.specs.Table.{Layouts, layout, put, crossings, free, Least}
+use Rattle.tanglegram.proofs.Freeing.{every-layout}
+use Rattle.tanglegram.proofs.Run.{Ends, stays-good, no-rise}
+use Rattle.tanglegram.proofs.Table.{Fits, frees, run-table}
+use Rattle.record.specs.Fields.{holdOf, sizeOf}
+use Rattle.record.specs.Refusals.{refusal}
+use Rattle.record.specs.Meaning.{tableOf, layoutsOf, relaid}
+use Rattle.record.proofs.Acceptance.{accepted-sized}
+use Rattle.record.proofs.Meaning.{accepted-fair, accepted-fits, fits-long, layouts-of-relaid, table-relaid}
+use Rattle.table.specs.Sides.{holds}
+use Rattle.table.specs.Refusals.{running}
+use Rattle.table.specs.Calls.{shownCount, ranTo, Runs}
+use Rattle.table.specs.declared.answers.Ran.{Ran}
+use Rattle.table.proofs.Turns.{allowed, running-0}
+use Rattle.promises.specs.Demand3.{RunKeeps, Demand3}
+
+-- `N` holds no side
+not-held : (hold : ℕ) (side : Side) → hold ≡ 78 → holds hold side ≡ false
+unfolding holds
+not-held hold left e = rw e refl
+not-held hold right e = rw e refl
+
+bit-true : (b : Bool) → bit b ≡ 1 → b ≡ true
+bit-true true e = refl
+bit-true false e = absurd (omega arith)
+
+bit-false : (b : Bool) → bit b ≡ 0 → b ≡ false
+bit-false true e = absurd (omega arith)
+bit-false false e = refl
+
+pub demand3 : Demand3
+demand3 = record {
+  run = λ s allowance answer s′ o a h one most.
+      let T = tableOf s in
+      let F = accepted-fair s a in
+      let fits = accepted-fits s a in
+      let E = ranTo s allowance in
+      let ends = run-table T F allowance (layoutsOf s) fits in
+      let n-free = not-held (holdOf s) left h in
+      let z = sym (running-0 s allowance (allowed allowance (omega arith) most) a n-free (not-held (holdOf s) right h)) in
+      let q = eq-eqb (running s allowance) 0 z in
+      let new-fits = subst (Fits F) (sym (ends .is-after))
+          (stays-good (Fits F) (crossings T) (Least T) (free T) (frees T F) (E .turns) left (layoutsOf s) fits) in
+      let l = fits-long s a (E .last) new-fits left in
+      let r = fits-long s a (E .last) new-fits right in
+      let turns : answer .turns ≡ E .turns = ap (λ x. x .turns) (o .answers) ∙ rw q refl in
+      let first : answer .first ≡ shownCount s = ap (λ x. x .first) (o .answers) ∙ rw q refl in
+      let last : answer .last ≡ crossings T (E .last) = ap (λ x. x .last) (o .answers) ∙ rw q refl in
+      let settled : answer .settled ≡ bit (E .settled) = ap (λ x. x .settled) (o .answers) ∙ rw q refl in
+      let left-behind : s′ ≡ relaid s (E .last) = o .leaves ∙ rw q refl in
+      let table-same : tableOf s′ ≡ T = ap tableOf left-behind ∙ table-relaid s (accepted-sized s a) (E .last) l r in
+      let laid : layoutsOf s′ ≡ E .last = ap layoutsOf left-behind ∙ layouts-of-relaid s (accepted-sized s a) (E .last) l r in
+      record {
+        accepted = ap (λ x. x .refusal .number) (o .answers) ∙ z;
+        first-count = first;
+        last-count = last ∙ sym (ap (λ X. crossings X (layoutsOf s′)) table-same ∙ ap (crossings T) laid);
+        alternate = left-behind ∙ ap (relaid s) (rw turns (ends .is-after));
+        within = rw turns (ends .allowed);
+        no-rise = λ j. no-rise (Fits F) (crossings T) (Least T) (free T) (frees T F) j left (layoutsOf s) fits;
+        few-turns = rw (turns, last, first) (ends .few);
+        goes-on = λ j p lt. ends .goes-on j p (rw turns at lt);
+        two-turns = λ p. rw turns (ends .enough p);
+        in-time = λ p. settled ∙ ap bit (ends .in-time (rw first at p));
+        used-up = λ e. turns ∙ ends .used-up (bit-false (E .settled) (sym settled ∙ e));
+        least = λ e side any.
+            let both = ends .both (bit-true (E .settled) (sym settled ∙ e)) in
+            rw (table-same, laid, last) (of-either T (E .last) both side any);
+      };
+}
+  where
+    of-either : (T : _) (x : Layouts) → Least T left x × Least T right x → (side : Side) (any : List ℕ) → crossings T x ≤ crossings T (put side any x)
+    of-either T x both left any = both .0 any (every-layout (x .left-bytes) any)
+    of-either T x both right any = both .1 any (every-layout (x .right-bytes) any)
