@@ -63,27 +63,31 @@ demand2 = record {
       let shown = shownOrder s (sideOf side) in
       let long = all-length (sizeOf s) shown (side-perm s (sizeOf s) (given s (g .1)) (sideOf side)) in
       let first = ap (take (sizeOf s)) (o .leaves ∙ rw (eq-eqb (ordering s side out) 0 e) refl)
-          ∙ take-at shown (drop (length shown) out) (sizeOf s) long in
-      (first, subst (Compatible (tableOf s .tree (sideOf side))) (sym first)
-      (order-compatible (layout (layoutsOf s) (sideOf side)) (tableOf s .tree (sideOf side))));
+      ∙ take-at shown (drop (length shown) out) (sizeOf s) long in (
+        first,
+        subst (Compatible (tableOf s .tree (sideOf side))) (sym first)
+            (order-compatible (layout (layoutsOf s) (sideOf side)) (tableOf s .tree (sideOf side))),
+      );
   count-published = λ s answer o z.
       let e = sym (ap (λ a. a .refusal .number) (o .answers)) ∙ z in
       ap (λ a. a .count) (o .answers) ∙ rw (eq-eqb (refusal s) 0 e) refl;
   freed-fewest = λ s side answer s′ o z.
       let n = none s side answer s′ o z in
       let a = ok s side answer s′ o z in
-      let after = counted-after s side answer s′ o z in
-      (ap (λ x. x .before) (o .answers) ∙ rw (eq-eqb (freeing s side) 0 n) refl,
-      after ∙ sym (ap shownCount (left-behind s side answer s′ o z) ∙ freed-count s side (given s a)),
-      λ any.
-          subst (λ k. k ≤ crossings (tableOf s) (put (sideOf side) any (layoutsOf s))) (sym after)
-          (free-least (tableOf s) (accepted-fair s a) (sideOf side) (layoutsOf s) (accepted-fits s a) any
-          (every-layout (layout (layoutsOf s) (sideOf side)) any)));
+      let after = counted-after s side answer s′ o z in (
+        ap (λ x. x .before) (o .answers) ∙ rw (eq-eqb (freeing s side) 0 n) refl,
+        after ∙ sym (ap shownCount (left-behind s side answer s′ o z) ∙ freed-count s side (given s a)),
+        λ any.
+            subst (λ k. k ≤ crossings (tableOf s) (put (sideOf side) any (layoutsOf s))) (sym after)
+            (free-least (tableOf s) (accepted-fair s a) (sideOf side) (layoutsOf s) (accepted-fits s a) any
+            (every-layout (layout (layoutsOf s) (sideOf side)) any)),
+      );
   turned-exactly = λ s side answer s′ o z.
       let a = ok s side answer s′ o z in
-      let l = laid s side answer s′ o z in
-      (subst (λ L. EachRow (TurnedIff s (sideOf side) L) (tableOf s .tree (sideOf side))) (sym l)
-      (eachRow-map (tableOf s .tree (sideOf side)) (λ i u v h. (λ e. h .0 e .1, λ lt. h .1 (refl, lt)))
-      (free-exactly (tableOf s) (accepted-fair s a) (sideOf side) (layoutsOf s) (accepted-fits s a))),
-      ap (λ L. layout L (other (sideOf side))) l ∙ free-other (tableOf s) (accepted-fair s a) (sideOf side) (layoutsOf s));
+      let l = laid s side answer s′ o z in (
+        subst (λ L. EachRow (TurnedIff s (sideOf side) L) (tableOf s .tree (sideOf side))) (sym l)
+            (eachRow-map (tableOf s .tree (sideOf side)) (λ i u v h. (λ e. h .0 e .1, λ lt. h .1 (refl, lt)))
+            (free-exactly (tableOf s) (accepted-fair s a) (sideOf side) (layoutsOf s) (accepted-fits s a))),
+        ap (λ L. layout L (other (sideOf side))) l ∙ free-other (tableOf s) (accepted-fair s a) (sideOf side) (layoutsOf s),
+      );
 }

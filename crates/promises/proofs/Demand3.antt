@@ -50,7 +50,7 @@ demand3 = record {
       let z = sym (running-0 s allowance (allowed allowance (omega arith) most) a n-free (not-held (holdOf s) right h)) in
       let q = eq-eqb (running s allowance) 0 z in
       let new-fits = subst (Fits F) (sym (ends .is-after))
-          (stays-good (Fits F) (crossings T) (Least T) (free T) (frees T F) (E .turns) left (layoutsOf s) fits) in
+      (stays-good (Fits F) (crossings T) (Least T) (free T) (frees T F) (E .turns) left (layoutsOf s) fits) in
       let l = fits-long s a (E .last) new-fits left in
       let r = fits-long s a (E .last) new-fits right in
       let turns : answer .turns ≡ E .turns = ap (λ x. x .turns) (o .answers) ∙ rw q refl in

@@ -74,7 +74,7 @@ run-keeps s allowance e =
     let fits = accepted-fits s a in
     let ends = run-table (tableOf s) F allowance (layoutsOf s) fits in
     let after-fits = stays-good (Fits F) (crossings (tableOf s)) (Least (tableOf s)) (free (tableOf s)) (frees (tableOf s) F)
-        (ranTo s allowance .turns) left (layoutsOf s) fits in
+    (ranTo s allowance .turns) left (layoutsOf s) fits in
     keeps-relaid s a (ranTo s allowance .last) (subst (Fits F) (sym (ends .is-after)) after-fits)
     (λ x h. absurd (none x (g .2) (g .3) h))
   where
@@ -90,10 +90,11 @@ held-stays = record {
       let e = ne-eqb (freeing s side) 0 (λ z. h (ap (λ a. a .refusal .number) (o .answers) ∙ z)) in
       (o .leaves ∙ rw e refl, ap (λ a. a .before) (o .answers) ∙ rw e refl, ap (λ a. a .after) (o .answers) ∙ rw e refl);
   run-refused = λ s allowance answer s′ o h.
-      let e = ne-eqb (running s allowance) 0 (λ z. h (ap (λ a. a .refusal .number) (o .answers) ∙ z)) in
-      (o .leaves ∙ rw e refl,
-      ap (λ a. a .first) (o .answers) ∙ rw e refl,
-      ap (λ a. a .last) (o .answers) ∙ rw e refl,
-      ap (λ a. a .turns) (o .answers) ∙ rw e refl,
-      ap (λ a. a .settled) (o .answers) ∙ rw e refl);
+      let e = ne-eqb (running s allowance) 0 (λ z. h (ap (λ a. a .refusal .number) (o .answers) ∙ z)) in (
+        o .leaves ∙ rw e refl,
+        ap (λ a. a .first) (o .answers) ∙ rw e refl,
+        ap (λ a. a .last) (o .answers) ∙ rw e refl,
+        ap (λ a. a .turns) (o .answers) ∙ rw e refl,
+        ap (λ a. a .settled) (o .answers) ∙ rw e refl,
+      );
 }

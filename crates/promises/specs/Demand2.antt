@@ -35,8 +35,8 @@ pub record Demand2 : Type 0 where
   -- A row is turned exactly if that makes its own crossings strictly fewer; the other side's bytes stay.
   pub turned-exactly : (s : List ℕ) (side : ℕ) (answer : Freed) (s′ : List ℕ) → Frees s side answer s′ → answer .refusal .number ≡ 0 →
       EachRow (λ i u l. (byte (layout (layoutsOf s′) (sideOf side)) i ≡ flip (byte (layout (layoutsOf s) (sideOf side)) i)) ↔
-          (own (between (seen (tableOf s) (layoutsOf s) (sideOf side)) u l) (between (seen (tableOf s) (layoutsOf s) (sideOf side)) l u)
-          (flip (byte (layout (layoutsOf s) (sideOf side)) i)) <
-          ownAt (seen (tableOf s) (layoutsOf s) (sideOf side)) (layout (layoutsOf s) (sideOf side)) i u l))
+      (own (between (seen (tableOf s) (layoutsOf s) (sideOf side)) u l) (between (seen (tableOf s) (layoutsOf s) (sideOf side)) l u)
+      (flip (byte (layout (layoutsOf s) (sideOf side)) i)) <
+      ownAt (seen (tableOf s) (layoutsOf s) (sideOf side)) (layout (layoutsOf s) (sideOf side)) i u l))
       (tableOf s .tree (sideOf side)) ×
       (layout (layoutsOf s′) (other (sideOf side)) ≡ layout (layoutsOf s) (other (sideOf side)))

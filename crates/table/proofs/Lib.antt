@@ -5,3 +5,5 @@ pub mod Outcomes
 pub mod Relaying
 pub mod Turns
 pub mod Alternating
+pub mod Proposed
+pub mod Compared

@@ -1,11 +1,14 @@
 // The calls of document 01 on any bytes.
 pub mod answers;
+mod comparing;
 mod counting;
 mod showing;
 mod sides;
 mod standing;
 mod taking_turns;
 
+pub use comparing::better;
+pub use comparing::better_check;
 pub use showing::count;
 pub use showing::entanglement;
 pub use showing::order;
