@@ -8,7 +8,7 @@ use borrow.Author.Tests.{eq-eqb}
 use lib.ListN.{length}
 use Rattle.tanglegram.specs.Lists.{bit}
 use Rattle.tanglegram.specs.Run.{Side, left, right, after}
-use Rattle.tanglegram.specs.Table.{Layouts, layout, put, crossings, free, Least}
+use Rattle.tanglegram.specs.Table.{Table, Layouts, put, crossings, free, Least}
 use Rattle.tanglegram.proofs.Freeing.{every-layout}
 use Rattle.tanglegram.proofs.Run.{Ends, stays-good, no-rise}
 use Rattle.tanglegram.proofs.Table.{Fits, frees, run-table}
@@ -74,10 +74,12 @@ demand3 = record {
         used-up = λ e. turns ∙ ends .used-up (bit-false (E .settled) (sym settled ∙ e));
         least = λ e side any.
             let both = ends .both (bit-true (E .settled) (sym settled ∙ e)) in
-            rw (table-same, laid, last) (of-either T (E .last) both side any);
+            subst (λ k. k ≤ crossings (tableOf s′) (put side any (layoutsOf s′))) (sym last)
+            (subst (λ X. crossings T (E .last) ≤ crossings X (put side any (layoutsOf s′))) (sym table-same)
+            (subst (λ L. crossings T (E .last) ≤ crossings T (put side any L)) (sym laid) (of-either T (E .last) both side any)));
       };
 }
   where
-    of-either : (T : _) (x : Layouts) → Least T left x × Least T right x → (side : Side) (any : List ℕ) → crossings T x ≤ crossings T (put side any x)
+    of-either : (T : Table) (x : Layouts) → Least T left x × Least T right x → (side : Side) (any : List ℕ) → crossings T x ≤ crossings T (put side any x)
     of-either T x both left any = both .0 any (every-layout (x .left-bytes) any)
     of-either T x both right any = both .1 any (every-layout (x .right-bytes) any)
