@@ -5,4 +5,4 @@ pub mod RecordOutcomes
 pub mod RecordRefused
 pub mod RecordRoundTrip
 pub mod SetHoldOnly
-pub mod RecordBench
+pub mod Bench

@@ -15,30 +15,30 @@ use Rattle.tanglegram.specs.Table.{Table, Layouts, linked, orderOf, cros
 use Rattle.tanglegram.specs.Entanglement.{sum, displacement, worst}
 
 -- What is given: n, the rows of both trees (upper then lower, row after row), the links, both layouts, an allowance.
-record Given : Type 0 where
-  size : ℕ
-  left-rows : List ℕ
-  right-rows : List ℕ
-  links : List ℕ
-  layouts : Layouts
-  allowance : ℕ
+pub record Given : Type 0 where
+  pub size : ℕ
+  pub left-rows : List ℕ
+  pub right-rows : List ℕ
+  pub links : List ℕ
+  pub layouts : Layouts
+  pub allowance : ℕ
 
 -- What is shown: both orders; the count; each left row's own crossings; D and W; the left's layout, its order and the count
 -- after freeing the left; the run's turns, whether it settled, its last layouts and its last count.
-record Shown : Type 0 where
-  left-order : List ℕ
-  right-order : List ℕ
-  crossed : ℕ
-  left-own : List ℕ
-  displaced : ℕ
-  worst-displaced : ℕ
-  left-freed : List ℕ
-  left-freed-order : List ℕ
-  left-freed-crossed : ℕ
-  turns : ℕ
-  settled : Bool
-  last-layouts : Layouts
-  last-crossed : ℕ
+pub record Shown : Type 0 where
+  pub left-order : List ℕ
+  pub right-order : List ℕ
+  pub crossed : ℕ
+  pub left-own : List ℕ
+  pub displaced : ℕ
+  pub worst-displaced : ℕ
+  pub left-freed : List ℕ
+  pub left-freed-order : List ℕ
+  pub left-freed-crossed : ℕ
+  pub turns : ℕ
+  pub settled : Bool
+  pub last-layouts : Layouts
+  pub last-crossed : ℕ
 
 abbrev upper : List ℕ → ℕ → ℕ
 upper rs i = getD rs (2 * pred i) 0
@@ -53,7 +53,7 @@ abbrev tableOf : Given → Table
 tableOf g = linked (g .size) (made (g .size) (g .left-rows)) (made (g .size) (g .right-rows)) (g .links)
 
 -- row i's own crossings: the crossing pairs with one leaf under its upper and one under its lower child
-abbrev ownOf : Given → ℕ → ℕ
+abbrev pub ownOf : Given → ℕ → ℕ
 ownOf g i =
     let rs = g .left-rows in
     let under : ℕ → Tree = λ k. object (upper rs) (lower rs) (g .size) k in
@@ -81,15 +81,15 @@ shown g =
       last-crossed = crossings T (e .last);
     }
 
-abbrev bytes : List ℕ → List ℕ → Layouts
+abbrev pub bytes : List ℕ → List ℕ → Layouts
 bytes l r = record { left-bytes = l; right-bytes = r }
 
 -- a line of the table, its two halves in the fields' order
-abbrev case : ℕ → List ℕ → List ℕ → List ℕ → List ℕ → List ℕ → ℕ → Given
+abbrev pub case : ℕ → List ℕ → List ℕ → List ℕ → List ℕ → List ℕ → ℕ → Given
 case n rs rs′ ps l r k =
     record { size = n; left-rows = rs; right-rows = rs′; links = ps; layouts = bytes l r; allowance = k }
 
-abbrev shows : List ℕ → List ℕ → ℕ → List ℕ → ℕ → ℕ → List ℕ → List ℕ → ℕ → ℕ → Bool → Layouts → ℕ → Shown
+abbrev pub shows : List ℕ → List ℕ → ℕ → List ℕ → ℕ → ℕ → List ℕ → List ℕ → ℕ → ℕ → Bool → Layouts → ℕ → Shown
 shows σ τ x own d w lay σ′ x′ t e s y = record {
   left-order = σ;
   right-order = τ;
@@ -107,13 +107,13 @@ shows σ τ x own d w lay σ′ x′ t e s y = record {
 }
 
 pub record Line : Type 0 where
-  from : Given
-  comes : Shown
+  pub from : Given
+  pub comes : Shown
 
-abbrev line : Given → Shown → Line
+abbrev pub line : Given → Shown → Line
 line g x = record { from = g; comes = x }
 
-abbrev bench : List Line
+abbrev pub bench : List Line
 bench =
     -- examples 1 to 4: case 2
     line (case 4 (1 ∷ 2 ∷ 3 ∷ 5 ∷ 4 ∷ 6 ∷ []) (1 ∷ 2 ∷ 3 ∷ 4 ∷ 5 ∷ 6 ∷ []) (1 ∷ 2 ∷ 3 ∷ 4 ∷ []) (0 ∷ 0 ∷ 0 ∷ []) (0 ∷ 0 ∷ 0 ∷ []) 130818)
