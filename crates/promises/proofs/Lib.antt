@@ -1,5 +1,6 @@
 pub mod HeldStays
 pub mod RecordOutcomes
+pub mod TableOutcomes
 pub mod RecordRefused
 pub mod SetHoldOnly
 pub mod Bench

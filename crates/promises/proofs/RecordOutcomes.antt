@@ -2,11 +2,11 @@
 use mathlib.Core.Path.{_≡_, refl, sym, _∙_}
 use Rattle.promises.specs.RecordOutcomes.{Outcome, UnpackOutcome, RecordOutcomes}
 
-same : {A : Type 0} {a b x : A} → a ≡ x → b ≡ x → a ≡ b
+pub same : {A : Type 0} {a b x : A} → a ≡ x → b ≡ x → a ≡ b
 same p q = p ∙ sym q
 
 -- outcomes that agree part by part
-outcome : {a b : Outcome} → a .answer ≡ b .answer → a .after ≡ b .after → a ≡ b
+pub outcome : {a b : Outcome} → a .answer ≡ b .answer → a .after ≡ b .after → a ≡ b
 outcome e f = rw (e, f) refl
 
 unpack-outcome : {a b : UnpackOutcome} → a .answer ≡ b .answer → a .left ≡ b .left → a .right ≡ b .right → a .links ≡ b .links →

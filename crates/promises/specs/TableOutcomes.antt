@@ -1,0 +1,27 @@
+-- Document 01: "For every input, refusals too, a public call's statement determines its answer and the final content of what was
+-- lent to it. Prove that any two outcomes satisfying it are equal." Here for the calls on the table.
+use Prim.Native.Nat.{ℕ}
+use mathlib.Core.Path.{_≡_}
+use mathlib.Core.List.{List}
+use Rattle.record.specs.declared.refusal.Refusal.{Refusal}
+use Rattle.table.specs.declared.answers.Counted.{Counted}
+use Rattle.table.specs.declared.answers.Freed.{Freed}
+use Rattle.table.specs.declared.answers.Ran.{Ran}
+use Rattle.table.specs.declared.answers.Entangled.{Entangled}
+use Rattle.table.specs.Refusals.{Hand}
+use Rattle.table.specs.Calls.{Orders, Counts, Entangles, Frees, Runs, Hands, Betters, BetterChecks}
+use Rattle.promises.specs.RecordOutcomes.{Outcome}
+
+pub record TableOutcomes : Type 0 where
+  pub order : (s : List ℕ) (side : ℕ) (out : List ℕ) (a b : Outcome) →
+      Orders s side out (a .answer) (a .after) → Orders s side out (b .answer) (b .after) → a ≡ b
+  -- Of count and of pairs, and of one against the other.
+  pub count : (s : List ℕ) (a b : Counted) → Counts s a → Counts s b → a ≡ b
+  pub entanglement : (s : List ℕ) (a b : Entangled) → Entangles s a → Entangles s b → a ≡ b
+  pub free : (s : List ℕ) (side : ℕ) (a b : Freed) (x y : List ℕ) → Frees s side a x → Frees s side b y → (a ≡ b) × (x ≡ y)
+  pub run : (s : List ℕ) (allowance : ℕ) (a b : Ran) (x y : List ℕ) → Runs s allowance a x → Runs s allowance b y → (a ≡ b) × (x ≡ y)
+  pub hands : (s : List ℕ) (hands : List Hand) (a b : Outcome) →
+      Hands s hands (a .answer) (a .after) → Hands s hands (b .answer) (b .after) → a ≡ b
+  pub better : (s : List ℕ) (side : ℕ) (first second x y : List ℕ) → Betters s side first second x → Betters s side first second y → x ≡ y
+  pub better-check : (s : List ℕ) (side : ℕ) (first second : List ℕ) (a b : Refusal) →
+      BetterChecks s side first second a → BetterChecks s side first second b → a ≡ b
