@@ -3,3 +3,8 @@ pub mod FarEnds
 pub mod Counts
 pub mod Outcomes
 pub mod Relaying
+pub mod HandLists
+pub mod TurnedRows
+pub mod Handed
+pub mod ByHand
+pub mod Again
