@@ -7,3 +7,8 @@ pub mod Turns
 pub mod Alternating
 pub mod Proposed
 pub mod Compared
+pub mod HandLists
+pub mod TurnedRows
+pub mod Handed
+pub mod ByHand
+pub mod Again

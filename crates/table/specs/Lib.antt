@@ -1,3 +1,4 @@
 pub mod Sides
 pub mod Refusals
 pub mod Calls
+pub mod Entries

@@ -1,5 +1,5 @@
 -- The refusals of each call, in document 01's order: 17, 12, then 13 or a bad hold letter, then 1 to 10, 16, 11, 14.
-use Prim.Native.Nat.{ℕ, _-_}
+use Prim.Native.Nat.{ℕ, _-_, _/_, _%_}
 use mathlib.Core.Bool.{Bool, not, _&&_, _||_}
 use mathlib.Core.List.{List, [], _∷_}
 use lib.Dec.{eqb, leb, ltb}
@@ -40,6 +40,13 @@ running s allowance =
 pub record Hand : Type 0 where
   pub side : ℕ
   pub row : ℕ
+
+abbrev pub hand : ℕ → ℕ → Hand
+hand side row = record { side = side; row = row }
+
+-- An entry as one number: the side times 65,536, and the row.
+abbrev pub handOf : ℕ → Hand
+handOf x = hand (x / 65536) (x % 65536)
 
 unfoldable pub badHand : ℕ → ℕ → Hand → ℕ
 unfolding isSide holds

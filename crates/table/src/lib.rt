@@ -2,6 +2,8 @@
 pub mod answers;
 mod comparing;
 mod counting;
+pub mod hand_entries;
+mod handing;
 mod showing;
 mod sides;
 mod standing;
@@ -9,6 +11,8 @@ mod taking_turns;
 
 pub use comparing::better;
 pub use comparing::better_check;
+pub use hand_entries::hands_named;
+pub use handing::hands;
 pub use showing::count;
 pub use showing::entanglement;
 pub use showing::order;
