@@ -2,15 +2,15 @@
 use Prim.Native.Nat.{ℕ, _≤_, _<_}
 use mathlib.Core.Path.{_≡_, refl, sym, ap, _∙_, subst}
 use mathlib.Core.Logic.{_↔_}
-use mathlib.Core.List.{List, _++_}
+use mathlib.Core.List.{List}
 use borrow.Author.Tests.{eq-eqb}
 use lib.ListN.{length, take, drop}
 use lib.Seq.{take-at}
 use Rattle.tanglegram.specs.Tree.{Tree, EachRow}
-use Rattle.tanglegram.specs.Order.{order, Compatible, byte, flip}
+use Rattle.tanglegram.specs.Order.{Compatible, byte, flip}
 use Rattle.tanglegram.specs.Crossings.{between, own, ownAt}
-use Rattle.tanglegram.specs.Run.{Side, left, right, other}
-use Rattle.tanglegram.specs.Table.{Layouts, layout, put, seen, crossings, free}
+use Rattle.tanglegram.specs.Run.{Side, other}
+use Rattle.tanglegram.specs.Table.{Layouts, layout, put, seen, crossings}
 use Rattle.tanglegram.proofs.Lists.{all-length}
 use Rattle.tanglegram.proofs.Tree.{eachRow-map}
 use Rattle.tanglegram.proofs.Order.{order-compatible}
@@ -20,7 +20,7 @@ use Rattle.record.specs.Fields.{sizeOf, partsOf}
 use Rattle.record.specs.Refusals.{refusal}
 use Rattle.record.specs.Meaning.{tableOf, layoutsOf, relaid}
 use Rattle.record.proofs.Meaning.{accepted-fair, accepted-fits}
-use Rattle.table.specs.Sides.{sideOf, Given}
+use Rattle.table.specs.Sides.{sideOf}
 use Rattle.table.specs.Refusals.{ordering, freeing}
 use Rattle.table.specs.Calls.{shownOrder, shownCount, freedLayouts, Orders, Frees}
 use Rattle.table.specs.declared.answers.Freed.{Freed}

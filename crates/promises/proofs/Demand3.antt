@@ -1,28 +1,26 @@
 -- A run of an accepted record that is not held keeps demand 3.
-use Prim.Native.Nat.{ℕ, suc, _+_, _-_, _≤_, _<_}
+use Prim.Native.Nat.{ℕ, _≤_}
 use mathlib.Core.Path.{_≡_, refl, sym, ap, _∙_, subst}
 use mathlib.Core.Bool.{Bool, true, false}
 use mathlib.Core.List.{List}
 use native.Mathlib.Omega.{arith}
 use borrow.Author.Tests.{eq-eqb}
-use lib.ListN.{length}
 use Rattle.tanglegram.specs.Lists.{bit}
-use Rattle.tanglegram.specs.Run.{Side, left, right, after}
+use Rattle.tanglegram.specs.Run.{Side, left, right}
 use Rattle.tanglegram.specs.Table.{Table, Layouts, put, crossings, free, Least}
 use Rattle.tanglegram.proofs.Freeing.{every-layout}
-use Rattle.tanglegram.proofs.Run.{Ends, stays-good, no-rise}
+use Rattle.tanglegram.proofs.Run.{stays-good, no-rise}
 use Rattle.tanglegram.proofs.Table.{Fits, frees, run-table}
-use Rattle.record.specs.Fields.{holdOf, sizeOf}
+use Rattle.record.specs.Fields.{holdOf}
 use Rattle.record.specs.Refusals.{refusal}
 use Rattle.record.specs.Meaning.{tableOf, layoutsOf, relaid}
 use Rattle.record.proofs.Acceptance.{accepted-sized}
 use Rattle.record.proofs.Meaning.{accepted-fair, accepted-fits, fits-long, layouts-of-relaid, table-relaid}
 use Rattle.table.specs.Sides.{holds}
 use Rattle.table.specs.Refusals.{running}
-use Rattle.table.specs.Calls.{shownCount, ranTo, Runs}
-use Rattle.table.specs.declared.answers.Ran.{Ran}
+use Rattle.table.specs.Calls.{shownCount, ranTo}
 use Rattle.table.proofs.Turns.{allowed, running-0}
-use Rattle.promises.specs.Demand3.{RunKeeps, Demand3}
+use Rattle.promises.specs.Demand3.{Demand3}
 
 -- `N` holds no side
 not-held : (hold : ℕ) (side : Side) → hold ≡ 78 → holds hold side ≡ false

@@ -1,18 +1,18 @@
--- A refused call changes no byte; freeing and runs change layout bytes only, and never a held side's.
-use Prim.Native.Nat.{ℕ, _-_}
+-- Freeing, runs and hand lists change layout bytes only, and never a held side's.
+use Prim.Native.Nat.{ℕ}
 use mathlib.Core.Path.{_≡_, refl, sym, ap, _∙_, subst}
-use mathlib.Core.Logic.{_≢_}
 use mathlib.Core.Bool.{Bool, true, false, cond, true≢false}
-use mathlib.Core.List.{List, _++_}
+use mathlib.Core.List.{List, [], _∷_}
 use native.Mathlib.Omega.{arith}
-use borrow.Author.Tests.{eqb-true, eqb-false, ne-eqb}
+use borrow.Author.Tests.{eqb-true}
 use lib.Dec.{eqb}
-use lib.ListN.{length, take}
+use lib.ListN.{length, take, length-set}
 use lib.Seq.{take-at, length-take-le}
-use Rattle.tanglegram.specs.Run.{Side, left, right, other, run, after}
-use Rattle.tanglegram.specs.Table.{Layouts, layout, crossings, free, Least}
+use Rattle.tanglegram.specs.Order.{turnRow}
+use Rattle.tanglegram.specs.Run.{Side, left, right, run}
+use Rattle.tanglegram.specs.Table.{Layouts, layout, put, crossings, free, Least}
 use Rattle.tanglegram.proofs.Run.{stays-good}
-use Rattle.tanglegram.proofs.Table.{Fits, frees, free-other, run-table}
+use Rattle.tanglegram.proofs.Table.{Fits, frees, run-table}
 use Rattle.record.specs.Fields.{holdOf, sizeOf, leftLayoutAt}
 use Rattle.record.specs.Refusals.{refusal}
 use Rattle.record.specs.Calls.{accepted}
@@ -20,9 +20,11 @@ use Rattle.record.specs.Meaning.{tableOf, layoutsOf, relaid}
 use Rattle.record.proofs.Acceptance.{accepted-sized}
 use Rattle.record.proofs.Meaning.{accepted-fair, accepted-fits, fits-long, length-relaid, layouts-of-relaid}
 use Rattle.table.specs.Sides.{sideOf, holds}
-use Rattle.table.specs.Refusals.{freeing, running}
-use Rattle.table.specs.Calls.{freedLayouts, ranTo, Frees, Runs}
+use Rattle.table.specs.Refusals.{Hand, freeing, running, handing}
+use Rattle.table.specs.Calls.{freedLayouts, ranTo, handed}
 use Rattle.table.proofs.Turns.{freeing-good, running-good}
+use Rattle.table.proofs.HandLists.{handing-accepted}
+use Rattle.table.proofs.Handed.{held-kept}
 use Rattle.promises.specs.HeldStays as HeldStays
 use Rattle.promises.specs.HeldStays.{Keeps}
 
@@ -82,19 +84,28 @@ run-keeps s allowance e =
     none left p q h = true≢false (sym h ∙ p)
     none right p q h = true≢false (sym h ∙ q)
 
+-- turning rows over leaves a layout as long as it was
+handed-long : (hands : List Hand) (at : Layouts) (side : Side) → length (layout (handed at hands) side) ≡ length (layout at side)
+unfolding handed
+handed-long [] at side = refl
+handed-long (h ∷ hs) at side = handed-long hs _ side ∙ by (sideOf (h .side)) side
+  where
+    by : (x y : Side) → length (layout (put x (turnRow (layout at x) (h .row)) at) y) ≡ length (layout at y)
+    by left left = simp length-set
+    by left right = refl
+    by right left = refl
+    by right right = simp length-set
+
+hands-keep : (s : List ℕ) (hands : List Hand) → handing s hands ≡ 0 → Keeps s (relaid s (handed (layoutsOf s) hands))
+hands-keep s hands e =
+    let a = handing-accepted s hands e .1 in
+    keeps-relaid s a (handed (layoutsOf s) hands) (λ side. handed-long hands (layoutsOf s) side ∙ accepted-fits s a side)
+    (λ side h. held-kept s hands side e h)
+
 pub held-stays : HeldStays.HeldStays
 held-stays = record {
   free = λ s side answer s′ o. either s (relaid s (freedLayouts s side)) s′ (freeing s side) (o .leaves) (free-keeps s side);
   run = λ s allowance answer s′ o. either s (relaid s (ranTo s allowance .last)) s′ (running s allowance) (o .leaves) (run-keeps s allowance);
-  free-refused = λ s side answer s′ o h.
-      let e = ne-eqb (freeing s side) 0 (λ z. h (ap (λ a. a .refusal .number) (o .answers) ∙ z)) in
-      (o .leaves ∙ rw e refl, ap (λ a. a .before) (o .answers) ∙ rw e refl, ap (λ a. a .after) (o .answers) ∙ rw e refl);
-  run-refused = λ s allowance answer s′ o h.
-      let e = ne-eqb (running s allowance) 0 (λ z. h (ap (λ a. a .refusal .number) (o .answers) ∙ z)) in (
-        o .leaves ∙ rw e refl,
-        ap (λ a. a .first) (o .answers) ∙ rw e refl,
-        ap (λ a. a .last) (o .answers) ∙ rw e refl,
-        ap (λ a. a .turns) (o .answers) ∙ rw e refl,
-        ap (λ a. a .settled) (o .answers) ∙ rw e refl,
-      );
+  hands = λ s hands answer s′ o.
+      either s (relaid s (handed (layoutsOf s) hands)) s′ (handing s hands) (o .leaves) (hands-keep s hands);
 }

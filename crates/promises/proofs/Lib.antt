@@ -1,6 +1,7 @@
 pub mod HeldStays
 pub mod RecordOutcomes
 pub mod TableOutcomes
+pub mod TableRefused
 pub mod RecordRefused
 pub mod SetHoldOnly
 pub mod Bench

@@ -2,16 +2,15 @@
 -- hold `N`, and example 9, whose lines are refused.
 use Prim.Native.Nat.{ℕ, pred}
 use mathlib.Core.Path.{_≡_}
-use mathlib.Core.Bool.{cond, false}
 use mathlib.Core.List.{List, [], _∷_, _++_, map}
 use Rattle.tanglegram.specs.Lists.{range}
 use Rattle.tanglegram.specs.Run.{left, right}
-use Rattle.tanglegram.specs.Table.{Layouts, crossings}
+use Rattle.tanglegram.specs.Table.{crossings}
 use Rattle.tanglegram.proofs.Bench.{Given, Shown, Line, line, case, shows, bytes, ownOf}
 use Rattle.tanglegram.proofs.Bench as Definitions
 use Rattle.record.specs.Fields.{given, packed}
 use Rattle.record.specs.Refusals.{refusal}
-use Rattle.record.specs.Meaning.{tableOf, layoutsOf}
+use Rattle.record.specs.Meaning.{tableOf}
 use Rattle.table.specs.Refusals.{freeing, running}
 use Rattle.table.specs.Calls.{shownOrder, shownCount, entangled, displacedIn, worstIn, freedLayouts, ranTo}
 

@@ -4,7 +4,7 @@
 use Prim.Native.Nat.{ℕ, suc, _+_, _≤_, _<_}
 use mathlib.Core.Path.{_≡_}
 use mathlib.Core.List.{List}
-use Rattle.tanglegram.specs.Run.{Side, left, right, after}
+use Rattle.tanglegram.specs.Run.{Side, left, after}
 use Rattle.tanglegram.specs.Table.{Layouts, put, crossings, free}
 use Rattle.record.specs.Fields.{holdOf}
 use Rattle.record.specs.Refusals.{refusal}

@@ -2,7 +2,6 @@
 -- in every outcome; they change layout bytes only.
 use Prim.Native.Nat.{ℕ}
 use mathlib.Core.Path.{_≡_}
-use mathlib.Core.Logic.{_≢_}
 use mathlib.Core.Bool.{true}
 use mathlib.Core.List.{List}
 use lib.ListN.{length, take}
@@ -10,10 +9,12 @@ use Rattle.tanglegram.specs.Run.{Side}
 use Rattle.tanglegram.specs.Table.{layout}
 use Rattle.record.specs.Fields.{holdOf, sizeOf, leftLayoutAt}
 use Rattle.record.specs.Meaning.{layoutsOf}
+use Rattle.record.specs.declared.refusal.Refusal.{Refusal}
 use Rattle.table.specs.declared.answers.Freed.{Freed}
 use Rattle.table.specs.declared.answers.Ran.{Ran}
 use Rattle.table.specs.Sides.{holds}
-use Rattle.table.specs.Calls.{Frees, Runs}
+use Rattle.table.specs.Refusals.{Hand}
+use Rattle.table.specs.Calls.{Frees, Runs, Hands}
 
 -- s′ has the bytes of s but for layout bytes, and of a held side those too.
 pub record Keeps (s s′ : List ℕ) : Type 0 where
@@ -24,8 +25,4 @@ pub record Keeps (s s′ : List ℕ) : Type 0 where
 pub record HeldStays : Type 0 where
   pub free : (s : List ℕ) (side : ℕ) (answer : Freed) (s′ : List ℕ) → Frees s side answer s′ → Keeps s s′
   pub run : (s : List ℕ) (allowance : ℕ) (answer : Ran) (s′ : List ℕ) → Runs s allowance answer s′ → Keeps s s′
-  -- A refused call changes no byte, and answers zero for every other number.
-  pub free-refused : (s : List ℕ) (side : ℕ) (answer : Freed) (s′ : List ℕ) → Frees s side answer s′ → answer .refusal .number ≢ 0 →
-      (s′ ≡ s) × (answer .before ≡ 0) × (answer .after ≡ 0)
-  pub run-refused : (s : List ℕ) (allowance : ℕ) (answer : Ran) (s′ : List ℕ) → Runs s allowance answer s′ → answer .refusal .number ≢ 0 →
-      (s′ ≡ s) × (answer .first ≡ 0) × (answer .last ≡ 0) × (answer .turns ≡ 0) × (answer .settled ≡ 0)
+  pub hands : (s : List ℕ) (hands : List Hand) (answer : Refusal) (s′ : List ℕ) → Hands s hands answer s′ → Keeps s s′

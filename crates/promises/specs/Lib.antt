@@ -3,6 +3,7 @@ pub mod Demand2
 pub mod Demand3
 pub mod RecordOutcomes
 pub mod TableOutcomes
+pub mod TableRefused
 pub mod RecordRefused
 pub mod RecordRoundTrip
 pub mod SetHoldOnly
