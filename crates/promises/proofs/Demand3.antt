@@ -78,6 +78,7 @@ demand3 = record {
       };
 }
   where
-    of-either : (T : Table) (x : Layouts) → Least T left x × Least T right x → (side : Side) (any : List ℕ) → crossings T x ≤ crossings T (put side any x)
+    of-either : (T : Table) (x : Layouts) → Least T left x × Least T right x → (side : Side) (any : List ℕ) →
+        crossings T x ≤ crossings T (put side any x)
     of-either T x both left any = both .0 any (every-layout (x .left-bytes) any)
     of-either T x both right any = both .1 any (every-layout (x .right-bytes) any)

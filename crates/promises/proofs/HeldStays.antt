@@ -41,7 +41,8 @@ keeps-relaid s a new f h =
     let r = fits-long s a new f right in
     record {
       same-length = length-relaid s z new l r;
-      same-front = take-at (take (leftLayoutAt (sizeOf s)) s) _ (leftLayoutAt (sizeOf s)) (length-take-le (leftLayoutAt (sizeOf s)) s (omega arith));
+      same-front =
+          take-at (take (leftLayoutAt (sizeOf s)) s) _ (leftLayoutAt (sizeOf s)) (length-take-le (leftLayoutAt (sizeOf s)) s (omega arith));
       held-stays = λ side e. ap (λ L. layout L side) (layouts-of-relaid s z new l r) ∙ h side e;
     }
 
@@ -105,7 +106,8 @@ hands-keep s hands e =
 pub held-stays : HeldStays.HeldStays
 held-stays = record {
   free = λ s side answer s′ o. either s (relaid s (freedLayouts s side)) s′ (freeing s side) (o .leaves) (free-keeps s side);
-  run = λ s allowance answer s′ o. either s (relaid s (ranTo s allowance .last)) s′ (running s allowance) (o .leaves) (run-keeps s allowance);
+  run = λ s allowance answer s′ o.
+      either s (relaid s (ranTo s allowance .last)) s′ (running s allowance) (o .leaves) (run-keeps s allowance);
   hands = λ s hands answer s′ o.
       either s (relaid s (handed (layoutsOf s) hands)) s′ (handing s hands) (o .leaves) (hands-keep s hands);
 }

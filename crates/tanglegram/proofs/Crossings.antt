@@ -17,7 +17,8 @@ use Rattle.tanglegram.specs.Crossings.{crosses, over, pairs, to, back, e
 use Rattle.tanglegram.specs.Crossings.{inverted, seenLeft, seenRight, between, ownAt, cost}
 use Rattle.tanglegram.proofs.Lists.{each-map, each-all, each-perm, each-pairwise, pairwise-map, pairwise-split}
 use Rattle.tanglegram.proofs.Lists.{length-range, place-head, place-tail, place-rising, at-place}
-use Rattle.tanglegram.proofs.Lists.{map-ext, all-distinct, all-length, undone-apart, each-intro, each-mem, mem-at, mem-perm, mem-range, place-at, place-below, range-each}
+use Rattle.tanglegram.proofs.Lists.{map-ext, all-distinct, all-length, undone-apart, each-intro, each-mem}
+use Rattle.tanglegram.proofs.Lists.{mem-at, mem-perm, mem-range, place-at, place-below, range-each}
 use Rattle.tanglegram.proofs.Tree.{eachRow-zip, each-under}
 use Rattle.tanglegram.proofs.Order.{order-perm}
 use Rattle.tanglegram.proofs.Sums.{pairs-append, pairs-map, pairs-perm, pairs-ext, pairs-most, across-perm, across-ext, across-swap}

@@ -1,3 +1,4 @@
+-- `crossings_paired`: places and seen places are those of the record's table.
 use mathlib.Core.Path.{refl, _∙_}
 use Rattle.tanglegram.specs.Run.{left}
 use Rattle.table.proofs.FarEnds.{is-left, order-one}
@@ -5,33 +6,22 @@ use Rattle.table.proofs.Counts.{pairs-count}
 use borrow.Author.Needs.{needs}
 use Rattle.table.proofs.counting.crossings_paired.Statement.{statement}
 use Rattle.table.proofs.counting.crossings_paired.Tie as tie
-use Rattle.table.proofs.counting.crossings_paired.Reads as reads
-use Rattle.table.proofs.counting.crossings_paired.Lts as lts
-use Rattle.crossings.proofs.count_pairs.Reads as count-pairs-reads
-use Rattle.crossings.proofs.places.Reads as places-reads
-use Rattle.table.proofs.standing.far_places.Reads as far-places-reads
-use Rattle.table.proofs.standing.side_order.Reads as side-order-reads
 
--- src/counting.rt:30:5
 side-order-requires : tie.Need-side-order-requires
 side-order-requires c κs = search needs
 
--- src/counting.rt:32:5
 places-requires : tie.Need-places-requires
 places-requires c κs =
     let v = c .before .before in
     let g = v .before .before .before .pre in
     (g .sized .most, g .sized .most, order-one _ _ g left _ _ (v .side-order .ensures))
 
--- src/counting.rt:34:5
 far-places-requires : tie.Need-far-places-requires
 far-places-requires c κs = (c .before .before .before .before .before .before .before .pre, (is-left, refl))
 
--- src/counting.rt:35:5
 count-pairs-requires : tie.Need-count-pairs-requires
 count-pairs-requires c κs = search needs
 
--- src/counting.rt:25:1
 returns : tie.Need-returns
 returns c =
     let v = c .before .before .before in

@@ -1,3 +1,4 @@
+-- `crossings_seen`: order and seen places are those of the record's table.
 use mathlib.Core.Path.{refl, _∙_}
 use Rattle.tanglegram.specs.Run.{left}
 use Rattle.table.proofs.FarEnds.{is-left, order-one}
@@ -5,28 +6,19 @@ use Rattle.table.proofs.Counts.{far-apart-side, seen-counts}
 use borrow.Author.Needs.{needs}
 use Rattle.table.proofs.counting.crossings_seen.Statement.{statement}
 use Rattle.table.proofs.counting.crossings_seen.Tie as tie
-use Rattle.table.proofs.counting.crossings_seen.Reads as reads
-use Rattle.table.proofs.counting.crossings_seen.Lts as lts
-use Rattle.crossings.proofs.count_seen.Reads as count-seen-reads
-use Rattle.table.proofs.standing.far_places.Reads as far-places-reads
-use Rattle.table.proofs.standing.side_order.Reads as side-order-reads
 
--- src/counting.rt:18:5
 side-order-requires : tie.Need-side-order-requires
 side-order-requires c κs = search needs
 
--- src/counting.rt:20:5
 far-places-requires : tie.Need-far-places-requires
 far-places-requires c κs = (c .before .before .before .before .pre, (is-left, refl))
 
--- src/counting.rt:21:5
 count-seen-requires : tie.Need-count-seen-requires
 count-seen-requires c κs =
     let v = c .before .before in
     let g = v .before .before .before .before .before .pre in
     ((g .sized .most, order-one _ _ g left _ _ (v .before .before .side-order .ensures)), far-apart-side _ _ g left _ (v .far-places .ensures .0))
 
--- src/counting.rt:13:1
 returns : tie.Need-returns
 returns c =
     let v = c .before .before .before in

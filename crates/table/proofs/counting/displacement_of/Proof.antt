@@ -1,3 +1,4 @@
+-- `displacement_of`: places and seen places are those of the record's table.
 use mathlib.Core.Path.{refl, _∙_}
 use Rattle.tanglegram.specs.Run.{left}
 use Rattle.table.proofs.FarEnds.{is-left, order-one}
@@ -5,29 +6,19 @@ use Rattle.table.proofs.Counts.{displaced-counts, places-good}
 use borrow.Author.Needs.{needs}
 use Rattle.table.proofs.counting.displacement_of.Statement.{statement}
 use Rattle.table.proofs.counting.displacement_of.Tie as tie
-use Rattle.table.proofs.counting.displacement_of.Reads as reads
-use Rattle.table.proofs.counting.displacement_of.Lts as lts
-use Rattle.crossings.proofs.displaced.Reads as displaced-reads
-use Rattle.crossings.proofs.places.Reads as places-reads
-use Rattle.table.proofs.standing.far_places.Reads as far-places-reads
-use Rattle.table.proofs.standing.side_order.Reads as side-order-reads
 
--- src/counting.rt:48:5
 side-order-requires : tie.Need-side-order-requires
 side-order-requires c κs = search needs
 
--- src/counting.rt:50:5
 places-requires : tie.Need-places-requires
 places-requires c κs =
     let v = c .before .before in
     let g = v .before .before .before .pre in
     (g .sized .most, g .sized .most, order-one _ _ g left _ _ (v .side-order .ensures))
 
--- src/counting.rt:52:5
 far-places-requires : tie.Need-far-places-requires
 far-places-requires c κs = (c .before .before .before .before .before .before .before .pre, (is-left, refl))
 
--- src/counting.rt:53:5
 displaced-requires : tie.Need-displaced-requires
 displaced-requires c κs =
     let v = c .before .before in
@@ -36,7 +27,6 @@ displaced-requires c κs =
     let g = u .before .before .before .pre in
     (g .sized .most, places-good _ _ g _ (v .far-places .ensures .0) _ _ (u .side-order .ensures) _ _ (w .places2 .ensures))
 
--- src/counting.rt:39:1
 returns : tie.Need-returns
 returns c =
     let v = c .before .before .before in

@@ -1,3 +1,4 @@
+-- `order`: a refused call leaves the buffer; otherwise the order stands in its first places.
 use mathlib.Core.Path.{refl, sym, _∙_}
 use native.Mathlib.Omega.{arith}
 use Rattle.table.specs.Sides.{sideOf}
@@ -6,38 +7,26 @@ use Rattle.table.proofs.Outcomes.{long-enough, given-size, ordering-goo
 use borrow.Author.Needs.{needs}
 use Rattle.table.proofs.showing.order.Statement.{statement}
 use Rattle.table.proofs.showing.order.Tie as tie
-use Rattle.table.proofs.showing.order.Reads as reads
-use Rattle.table.proofs.showing.order.Lts as lts
-use Rattle.record.proofs.size_of.Reads as size-of-reads
-use Rattle.table.proofs.showing.ordering_number.Reads as ordering-number-reads
-use Rattle.table.proofs.standing.copy_order.Reads as copy-order-reads
-use Rattle.table.proofs.standing.side_order.Reads as side-order-reads
 
--- src/showing.rt:48:9
 ordering-number-requires : tie.Need-ordering-number-requires
 ordering-number-requires c κs = search needs
 
--- src/showing.rt:50:9
 same-length : tie.Need-same-length
 same-length c = search needs
 
--- src/showing.rt:50:9
 returns : tie.Need-returns
 returns c = order-refused _ _ _ (c .before .ordering-number .ensures) (c .if1 .taken)
 
--- src/showing.rt:52:9
 size-of-requires : tie.Need-size-of-requires
 size-of-requires c κs =
     long-enough _ (ordering-good _ _ _ (sym (c .before .ordering-number .ensures) ∙ c .if1 .left) .1)
 
--- src/showing.rt:54:5
 side-order-requires : tie.Need-side-order-requires
 side-order-requires c κs =
     let p = c .before .before in
     let a = ordering-good _ _ _ (sym (p .before .ordering-number .ensures) ∙ p .if1 .left) in
     (given-size _ (a .1) (c .before .size-of .ensures), refl)
 
--- src/showing.rt:55:5
 copy-order-requires : tie.Need-copy-order-requires
 copy-order-requires c κs =
     let q = c .before .before .before .before in
@@ -47,11 +36,9 @@ copy-order-requires c κs =
     let side = sideOf (p .before .before .before .before .before .args .side) in
     (order-long _ _ g side _ _ (c .before .before .side-order .ensures), g .sized .most, omega (arith, a .2, q .size-of .ensures))
 
--- src/showing.rt:45:1
 same-length-2 : tie.Need-same-length-2
 same-length-2 c = search needs
 
--- src/showing.rt:45:1
 returns-2 : tie.Need-returns-2
 returns-2 c =
     let v = c .before .before in

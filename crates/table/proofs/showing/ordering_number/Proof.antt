@@ -1,43 +1,32 @@
+-- `ordering_number`: the refusals 13, 1 to 10 and 14 in that order.
 use mathlib.Core.Path.{sym, _∙_}
 use borrow.Author.Tests.{not-true, not-false}
 use Rattle.table.proofs.Outcomes.{long-enough, ordering-13, ordering-record, ordering-14, ordering-0}
 use borrow.Author.Needs.{needs}
 use Rattle.table.proofs.showing.ordering_number.Statement.{statement}
 use Rattle.table.proofs.showing.ordering_number.Tie as tie
-use Rattle.table.proofs.showing.ordering_number.Reads as reads
-use Rattle.table.proofs.showing.ordering_number.Lts as lts
-use Rattle.record.proofs.refusal_number.Reads as refusal-number-reads
-use Rattle.record.proofs.size_of.Reads as size-of-reads
-use Rattle.table.proofs.sides.is_side.Reads as is-side-reads
 
--- src/showing.rt:31:9
 is-side-requires : tie.Need-is-side-requires
 is-side-requires c κs = search needs
 
--- src/showing.rt:32:9
 returns : tie.Need-returns
 returns c = ordering-13 _ _ _ (sym (c .before .is-side .ensures) ∙ not-true _ (c .if1 .taken))
 
--- src/showing.rt:34:9
 refusal-number-requires : tie.Need-refusal-number-requires
 refusal-number-requires c κs = search needs
 
--- src/showing.rt:36:9
 returns-2 : tie.Need-returns-2
 returns-2 c =
     let p = c .before .before in
     let e = c .before .refusal-number .ensures in
     e ∙ ordering-record _ _ _ (sym (p .before .is-side .ensures) ∙ not-false _ (p .if1 .left)) (λ z. c .if2 .taken (e ∙ z))
 
--- src/showing.rt:38:20
 size-of-requires : tie.Need-size-of-requires
 size-of-requires c κs = long-enough _ (sym (c .before .refusal-number .ensures) ∙ c .if2 .left)
 
--- src/showing.rt:38:20
 cast-if3 : tie.Need-cast-if3
 cast-if3 c = search needs
 
--- src/showing.rt:39:9
 returns-3 : tie.Need-returns-3
 returns-3 c =
     let q = c .before .before in
@@ -45,7 +34,6 @@ returns-3 c =
     ordering-14 _ _ _ (sym (p .before .is-side .ensures) ∙ not-false _ (p .if1 .left)) (sym (q .before .refusal-number .ensures) ∙ q .if2 .left)
     (rw (c .before .size-of .ensures) at (c .if3 .taken))
 
--- src/showing.rt:28:1
 returns-4 : tie.Need-returns-4
 returns-4 c =
     let q = c .before .before in

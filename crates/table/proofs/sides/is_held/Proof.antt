@@ -1,21 +1,17 @@
+-- `is_held`: the three letters against the definition.
 use mathlib.Core.Path.{sym}
 use borrow.Author.Tests.{eq-eqb, ne-eqb}
 use Rattle.table.specs.Sides.{sideOf}
 use Rattle.table.proofs.Turns.{both-held, left-held, right-held}
 use Rattle.table.proofs.sides.is_held.Statement.{statement}
 use Rattle.table.proofs.sides.is_held.Tie as tie
-use Rattle.table.proofs.sides.is_held.Reads as reads
-use Rattle.table.proofs.sides.is_held.Lts as lts
 
--- src/sides.rt:20:9
 returns : tie.Need-returns
 returns c = rw (c .if1 .taken) (sym (both-held (sideOf (c .before .args .side))))
 
--- src/sides.rt:23:9
 returns-2 : tie.Need-returns-2
 returns-2 c = rw (eq-eqb _ _ (c .if2 .taken)) (left-held _ (c .before .if1 .left))
 
--- src/sides.rt:16:1
 returns-3 : tie.Need-returns-3
 returns-3 c = rw (ne-eqb _ _ (c .if2 .left)) (right-held _ (c .before .if1 .left))
 

@@ -1,17 +1,14 @@
+-- `is_side`: both tests against the definition.
 use mathlib.Core.Path.{refl}
 use borrow.Author.Tests.{eq-eqb, ne-eqb}
 use Rattle.table.specs.Sides.{isSide}
 use Rattle.table.proofs.sides.is_side.Statement.{statement}
 use Rattle.table.proofs.sides.is_side.Tie as tie
-use Rattle.table.proofs.sides.is_side.Reads as reads
-use Rattle.table.proofs.sides.is_side.Lts as lts
 
--- src/showing.rt:22:9
 returns : tie.Need-returns
 unfolding isSide
 returns c = rw (eq-eqb _ _ (c .if1 .taken)) refl
 
--- src/showing.rt:18:1
 returns-2 : tie.Need-returns-2
 unfolding isSide
 returns-2 c = rw (ne-eqb _ _ (c .if1 .left)) refl

@@ -1,3 +1,4 @@
+-- `copy_order`: after i turns, the first i entries stand in the buffer's first places.
 use Prim.Native.Nat.{_-_, _≤_}
 use mathlib.Core.Path.{_≡_, refl}
 use native.Mathlib.Omega.{arith}
@@ -7,8 +8,6 @@ use Rattle.record.proofs.Stores.{store-entry}
 use borrow.Author.Needs.{needs}
 use Rattle.table.proofs.standing.copy_order.Statement.{statement}
 use Rattle.table.proofs.standing.copy_order.Tie as tie
-use Rattle.table.proofs.standing.copy_order.Reads as reads
-use Rattle.table.proofs.standing.copy_order.Lts as lts
 
 abbrev Inv-loop : tie.InvT-loop
 Inv-loop made n out₀ k i₀ out i = (i ≤ n) × (length out ≡ length out₀) × (out ≡ sets out₀ 0 (take i made))
@@ -16,35 +15,27 @@ Inv-loop made n out₀ k i₀ out i = (i ≤ n) × (length out ≡ length out₀
 abbrev μ-loop : tie.MeasureT-loop
 μ-loop made n out₀ k i₀ out i = n - i
 
--- src/standing.rt:78:5
 loop-holds : tie.Need-loop-holds Inv-loop μ-loop
 loop-holds c = search needs
 
--- src/standing.rt:79:18
 mul-out : tie.Need-mul-out Inv-loop μ-loop
 mul-out c = search needs
 
--- src/standing.rt:79:18
 element-copy-out-out : tie.Need-element-copy-out-out Inv-loop μ-loop
 element-copy-out-out c = search needs
 
--- src/standing.rt:79:9
 mul-out-2 : tie.Need-mul-out-2 Inv-loop μ-loop
 mul-out-2 c = search needs
 
--- src/standing.rt:79:9
 slice-write-out : tie.Need-slice-write-out Inv-loop μ-loop
 slice-write-out c = search needs
 
--- src/standing.rt:80:9
 add-i : tie.Need-add-i Inv-loop μ-loop
 add-i c = search needs
 
--- src/standing.rt:78:5
 loop-less : tie.Need-loop-less Inv-loop μ-loop
 loop-less c = search needs
 
--- src/standing.rt:78:5
 loop-again : tie.Need-loop-again Inv-loop μ-loop
 loop-again c =
     let s = c .before .before .before in
@@ -52,11 +43,9 @@ loop-again c =
     let stored = store-entry (s .args .made .now) (s .args .out .now) 0 (l .i) (l .i) (omega arith) (omega arith) in
     (omega arith, simp length-set (l .inv .1), rw (l .inv .2) stored)
 
--- src/standing.rt:72:1
 same-length : tie.Need-same-length Inv-loop μ-loop
 same-length c = search needs
 
--- src/standing.rt:72:1
 returns : tie.Need-returns Inv-loop μ-loop
 returns c =
     let l = c .before .loop in

@@ -1,3 +1,4 @@
+-- `far_places`: the places that a side's leaves see are those of the other side's present order.
 use Prim.Native.Nat.{_-_}
 use mathlib.Core.Path.{refl, sym, ap, _∙_}
 use native.Mathlib.Omega.{arith}
@@ -7,49 +8,34 @@ use Rattle.table.proofs.FarEnds.{side-most, second-side, order-one, lin
 use borrow.Author.Needs.{needs}
 use Rattle.table.proofs.standing.far_places.Statement.{statement}
 use Rattle.table.proofs.standing.far_places.Tie as tie
-use Rattle.table.proofs.standing.far_places.Reads as reads
-use Rattle.table.proofs.standing.far_places.Lts as lts
-use Rattle.crossings.proofs.far_ends.Reads as far-ends-reads
-use Rattle.crossings.proofs.near_ends.Reads as near-ends-reads
-use Rattle.crossings.proofs.places.Reads as places-reads
-use Rattle.record.proofs.fill_links.Reads as fill-links-reads
-use Rattle.table.proofs.standing.side_order.Reads as side-order-reads
 
--- src/standing.rt:58:22
 sub-side-order : tie.Need-sub-side-order
 sub-side-order c =
     let a = c .before .args in
     let h = side-most (a .side) (c .before .pre .1 .0) in
     omega arith
 
--- src/standing.rt:58:5
 side-order-requires : tie.Need-side-order-requires
 side-order-requires c κs = search needs
 
--- src/standing.rt:60:5
 places-requires : tie.Need-places-requires
 places-requires c κs =
     let z = c .before .before .before .before .before in
     let g = z .pre .0 in
     (g .sized .most, g .sized .most, order-one _ _ g (sideOf (3 - z .args .side)) _ _ (c .before .before .side-order .ensures))
 
--- src/standing.rt:62:36
 sub-fill-links : tie.Need-sub-fill-links
 sub-fill-links c = search needs
 
--- src/standing.rt:62:31
 mul-fill-links : tie.Need-mul-fill-links
 mul-fill-links c = search needs
 
--- src/standing.rt:62:27
 add-fill-links : tie.Need-add-fill-links
 add-fill-links c = search needs
 
--- src/standing.rt:62:5
 fill-links-requires : tie.Need-fill-links-requires
 fill-links-requires c κs = search needs
 
--- src/standing.rt:64:9
 far-ends-requires : tie.Need-far-ends-requires
 far-ends-requires c κs =
     let v = c .before .before .before .before in
@@ -58,7 +44,6 @@ far-ends-requires c κs =
     let room = z .pre .1 .1 in
     (g .sized .most, omega (arith, g .sized .most), one-to _ _ (links-one _ _ g _ _ (g .sized .most) (v .fill-links .ensures)))
 
--- src/standing.rt:66:9
 near-ends-requires : tie.Need-near-ends-requires
 near-ends-requires c κs =
     let v = c .before .before .before .before in
@@ -67,7 +52,6 @@ near-ends-requires c κs =
     let room = z .pre .1 .1 in
     (g .sized .most, omega (arith, g .sized .most), links-one _ _ g _ _ (g .sized .most) (v .fill-links .ensures))
 
--- src/standing.rt:51:1
 returns : tie.Need-returns
 returns c =
     let v = c .before .before .before .before .before in
@@ -81,7 +65,6 @@ returns c =
     (rw h at (u .side-order .ensures)) (c .far-ends .ensures) in
     (rw h (found .0), found .1 ∙ room)
 
--- src/standing.rt:51:1
 returns-2 : tie.Need-returns-2
 returns-2 c =
     let v = c .before .before .before .before .before in

@@ -1,64 +1,49 @@
+-- `layout_at`: where a side's layout bytes start.
 use mathlib.Core.Path.{refl}
 use borrow.Author.Tests.{eq-eqb, ne-eqb}
 use borrow.Author.Needs.{needs}
 use Rattle.table.proofs.standing.layout_at.Statement.{statement}
 use Rattle.table.proofs.standing.layout_at.Tie as tie
-use Rattle.table.proofs.standing.layout_at.Reads as reads
-use Rattle.table.proofs.standing.layout_at.Lts as lts
 
--- src/standing.rt:30:25
 sub-result : tie.Need-sub-result
 sub-result c = search needs
 
--- src/standing.rt:30:20
 mul-result : tie.Need-mul-result
 mul-result c = search needs
 
--- src/standing.rt:30:16
 add-result : tie.Need-add-result
 add-result c = search needs
 
--- src/standing.rt:30:34
 mul-result-2 : tie.Need-mul-result-2
 mul-result-2 c = search needs
 
--- src/standing.rt:30:16
 add-result-2 : tie.Need-add-result-2
 add-result-2 c = search needs
 
--- src/standing.rt:30:9
 returns : tie.Need-returns
 returns c = rw (eq-eqb _ _ (c .if1 .taken)) refl
 
--- src/standing.rt:32:14
 sub-result-2 : tie.Need-sub-result-2
 sub-result-2 c = search needs
 
--- src/standing.rt:32:9
 mul-result-3 : tie.Need-mul-result-3
 mul-result-3 c = search needs
 
--- src/standing.rt:32:5
 add-result-3 : tie.Need-add-result-3
 add-result-3 c = search needs
 
--- src/standing.rt:32:23
 mul-result-4 : tie.Need-mul-result-4
 mul-result-4 c = search needs
 
--- src/standing.rt:32:5
 add-result-4 : tie.Need-add-result-4
 add-result-4 c = search needs
 
--- src/standing.rt:32:32
 sub-result-3 : tie.Need-sub-result-3
 sub-result-3 c = search needs
 
--- src/standing.rt:32:5
 add-result-5 : tie.Need-add-result-5
 add-result-5 c = search needs
 
--- src/standing.rt:24:1
 returns-2 : tie.Need-returns-2
 returns-2 c = rw (ne-eqb _ _ (c .if1 .left)) refl
 

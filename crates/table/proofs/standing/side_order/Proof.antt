@@ -1,3 +1,4 @@
+-- `side_order`: the side's rows and layout bytes are the tree and the layout of the record's table.
 use mathlib.Core.Path.{refl, sym, ap, _∙_}
 use native.Mathlib.Omega.{arith}
 use lib.ListN.{length}
@@ -6,55 +7,40 @@ use Rattle.table.proofs.AsItStands.{rows-within, layout-within, part-la
 use borrow.Author.Needs.{needs}
 use Rattle.table.proofs.standing.side_order.Statement.{statement}
 use Rattle.table.proofs.standing.side_order.Tie as tie
-use Rattle.table.proofs.standing.side_order.Reads as reads
-use Rattle.table.proofs.standing.side_order.Lts as lts
-use Rattle.record.proofs.fill_table.Reads as fill-table-reads
-use Rattle.table.proofs.standing.layout_at.Reads as layout-at-reads
-use Rattle.table.proofs.standing.rows_at.Reads as rows-at-reads
-use Rattle.trees.proofs.layout_order.Reads as layout-order-reads
 
--- src/standing.rt:44:27
 rows-at-requires : tie.Need-rows-at-requires
 rows-at-requires c κs = search needs
 
--- src/standing.rt:44:5
 fill-table-requires : tie.Need-fill-table-requires
 fill-table-requires c κs =
     let z = c .before .before .before in
     let g = z .pre .0 in
     (g .sized .some, g .sized .most, rw (c .before .rows-at .ensures) (rows-within _ _ g (sideOf (z .args .side))), refl)
 
--- src/standing.rt:45:9
 layout-at-requires : tie.Need-layout-at-requires
 layout-at-requires c κs = search needs
 
--- src/standing.rt:46:22
 sub-to : tie.Need-sub-to
 sub-to c = search needs
 
--- src/standing.rt:46:14
 add-to : tie.Need-add-to
 add-to c =
     let z = c .before .before .before .before .before in
     let h = layout-within _ _ (z .pre .0) (sideOf (z .args .side)) in
     omega (arith, c .layout-at .ensures)
 
--- src/standing.rt:47:31
 sub-layout-order : tie.Need-sub-layout-order
 sub-layout-order c = search needs
 
--- src/standing.rt:47:31
 part-layout-order-start : tie.Need-part-layout-order-start
 part-layout-order-start c = search needs
 
--- src/standing.rt:47:31
 part-layout-order-end : tie.Need-part-layout-order-end
 part-layout-order-end c =
     let z = c .before .before .before .before .before .before in
     let h = layout-within _ _ (z .pre .0) (sideOf (z .args .side)) in
     omega (arith, c .before .layout-at .ensures)
 
--- src/standing.rt:47:5
 layout-order-requires : tie.Need-layout-order-requires
 layout-order-requires c κs =
     let v = c .before .before .before in
@@ -67,7 +53,6 @@ layout-order-requires c κs =
     let k = filled-size _ _ g side _ _ refl _ h e in
     (filled-good _ _ g side _ _ refl _ h e, (omega (arith, ap length n, length-part _ _ g side, g .sized .some), z .pre .1))
 
--- src/standing.rt:36:1
 returns : tie.Need-returns
 returns c =
     let v = c .before .before .before .before in

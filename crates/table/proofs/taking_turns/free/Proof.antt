@@ -1,3 +1,4 @@
+-- `free`: a refused call leaves every byte; otherwise both counts and the side freed.
 use mathlib.Core.Path.{sym, _∙_}
 use Rattle.table.specs.Sides.{sideOf}
 use Rattle.table.proofs.Outcomes.{long-enough, given-size}
@@ -5,46 +6,33 @@ use Rattle.table.proofs.Turns.{freeing-good, free-refused, free-accepte
 use borrow.Author.Needs.{needs}
 use Rattle.table.proofs.taking_turns.free.Statement.{statement}
 use Rattle.table.proofs.taking_turns.free.Tie as tie
-use Rattle.table.proofs.taking_turns.free.Reads as reads
-use Rattle.table.proofs.taking_turns.free.Lts as lts
-use Rattle.record.proofs.size_of.Reads as size-of-reads
-use Rattle.table.proofs.counting.crossings_seen.Reads as crossings-seen-reads
-use Rattle.table.proofs.taking_turns.free_side.Reads as free-side-reads
-use Rattle.table.proofs.taking_turns.freeing_number.Reads as freeing-number-reads
 
--- src/taking_turns.rt:58:9
 freeing-number-requires : tie.Need-freeing-number-requires
 freeing-number-requires c κs = search needs
 
--- src/taking_turns.rt:60:9
 same-length : tie.Need-same-length
 same-length c = search needs
 
--- src/taking_turns.rt:60:9
 returns : tie.Need-returns
 returns c = free-refused _ _ (c .before .freeing-number .ensures) (c .if1 .taken)
 
--- src/taking_turns.rt:66:9
 size-of-requires : tie.Need-size-of-requires
 size-of-requires c κs =
     let p = c .before in
     long-enough _ (freeing-good _ _ (sym (p .before .freeing-number .ensures) ∙ p .if1 .left) .1)
 
--- src/taking_turns.rt:67:9
 crossings-seen-requires : tie.Need-crossings-seen-requires
 crossings-seen-requires c κs =
     let p = c .before .before .before in
     let a = freeing-good _ _ (sym (p .before .freeing-number .ensures) ∙ p .if1 .left) in
     given-size _ (a .1) (c .before .size-of .ensures)
 
--- src/taking_turns.rt:68:5
 free-side-requires : tie.Need-free-side-requires
 free-side-requires c κs =
     let p = c .before .before .before .before .before in
     let a = freeing-good _ _ (sym (p .before .freeing-number .ensures) ∙ p .if1 .left) in
     (given-size _ (a .1) (c .before .before .before .size-of .ensures), a .0)
 
--- src/taking_turns.rt:72:16
 crossings-seen-requires-2 : tie.Need-crossings-seen-requires-2
 crossings-seen-requires-2 c κs =
     let q = c .before .before .before .before .before .before .before in
@@ -53,11 +41,9 @@ crossings-seen-requires-2 c κs =
     let side = sideOf (p .before .before .before .before .args .side) in
     given-after _ _ (given-size _ (a .1) (q .size-of .ensures)) side (c .before .before .before .free-side .ensures)
 
--- src/taking_turns.rt:55:1
 same-length-2 : tie.Need-same-length-2
 same-length-2 c = search needs
 
--- src/taking_turns.rt:55:1
 returns-2 : tie.Need-returns-2
 returns-2 c =
     let v = c .before .before .before .before in

@@ -1,3 +1,4 @@
+-- `free_side`: the layout bytes written are those of the side freed, and the record is relaid with them.
 use mathlib.Core.Path.{refl, sym, ap, ap₂, subst, _∙_}
 use native.Mathlib.Omega.{arith}
 use lib.ListN.{length}
@@ -14,60 +15,43 @@ use Rattle.table.proofs.Relaying.{relaid-mid, freed-held}
 use borrow.Author.Needs.{needs}
 use Rattle.table.proofs.taking_turns.free_side.Statement.{statement}
 use Rattle.table.proofs.taking_turns.free_side.Tie as tie
-use Rattle.table.proofs.taking_turns.free_side.Reads as reads
-use Rattle.table.proofs.taking_turns.free_side.Lts as lts
-use Rattle.freeing.proofs.free_rows.Reads as free-rows-reads
-use Rattle.record.proofs.fill_table.Reads as fill-table-reads
-use Rattle.table.proofs.standing.far_places.Reads as far-places-reads
-use Rattle.table.proofs.standing.layout_at.Reads as layout-at-reads
-use Rattle.table.proofs.standing.rows_at.Reads as rows-at-reads
 
--- src/taking_turns.rt:20:5
 far-places-requires : tie.Need-far-places-requires
 far-places-requires c κs = search needs
 
--- src/taking_turns.rt:22:27
 rows-at-requires : tie.Need-rows-at-requires
 rows-at-requires c κs = search needs
 
--- src/taking_turns.rt:22:5
 fill-table-requires : tie.Need-fill-table-requires
 fill-table-requires c κs =
     let z = c .before .before .before .before .before .before .before in
     let g = z .pre .0 in
     (g .sized .some, g .sized .most, rw (c .before .rows-at .ensures) (rows-within _ _ g (sideOf (z .args .side))), refl)
 
--- src/taking_turns.rt:23:9
 layout-at-requires : tie.Need-layout-at-requires
 layout-at-requires c κs = search needs
 
--- src/taking_turns.rt:24:22
 sub-to : tie.Need-sub-to
 sub-to c = search needs
 
--- src/taking_turns.rt:24:14
 add-to : tie.Need-add-to
 add-to c =
     let z = c .before .before .before .before .before .before .before .before .before in
     let h = layout-within _ _ (z .pre .0) (sideOf (z .args .side)) in
     omega (arith, c .layout-at .ensures)
 
--- src/taking_turns.rt:25:36
 sub-free-rows : tie.Need-sub-free-rows
 sub-free-rows c = search needs
 
--- src/taking_turns.rt:25:36
 part-free-rows-start : tie.Need-part-free-rows-start
 part-free-rows-start c = search needs
 
--- src/taking_turns.rt:25:36
 part-free-rows-end : tie.Need-part-free-rows-end
 part-free-rows-end c =
     let z = c .before .before .before .before .before .before .before .before .before .before .before in
     let h = layout-within _ _ (z .pre .0) (sideOf (z .args .side)) in
     omega (arith, c .before .before .layout-at .ensures)
 
--- src/taking_turns.rt:25:5
 free-rows-requires : tie.Need-free-rows-requires
 free-rows-requires c κs =
     let v = c .before .before .before in
@@ -86,11 +70,9 @@ free-rows-requires c κs =
       ),
     )
 
--- src/taking_turns.rt:12:1
 same-length : tie.Need-same-length
 same-length c = search needs
 
--- src/taking_turns.rt:12:1
 returns : tie.Need-returns
 returns c =
     let u = c .before .before in

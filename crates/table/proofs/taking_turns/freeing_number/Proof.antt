@@ -1,3 +1,4 @@
+-- `freeing_number`: the refusals 13, 1 to 10 and 11 in that order.
 use mathlib.Core.Path.{sym, _∙_}
 use native.Mathlib.Omega.{arith}
 use borrow.Author.Tests.{not-true, not-false}
@@ -6,43 +7,31 @@ use Rattle.table.proofs.Turns.{freeing-13, freeing-record, freeing-11, 
 use borrow.Author.Needs.{needs}
 use Rattle.table.proofs.taking_turns.freeing_number.Statement.{statement}
 use Rattle.table.proofs.taking_turns.freeing_number.Tie as tie
-use Rattle.table.proofs.taking_turns.freeing_number.Reads as reads
-use Rattle.table.proofs.taking_turns.freeing_number.Lts as lts
-use Rattle.record.proofs.refusal_number.Reads as refusal-number-reads
-use Rattle.table.proofs.sides.is_held.Reads as is-held-reads
-use Rattle.table.proofs.sides.is_side.Reads as is-side-reads
 
--- src/taking_turns.rt:41:9
 is-side-requires : tie.Need-is-side-requires
 is-side-requires c κs = search needs
 
--- src/taking_turns.rt:42:9
 returns : tie.Need-returns
 returns c = freeing-13 _ _ (sym (c .before .is-side .ensures) ∙ not-true _ (c .if1 .taken))
 
--- src/taking_turns.rt:44:9
 refusal-number-requires : tie.Need-refusal-number-requires
 refusal-number-requires c κs = search needs
 
--- src/taking_turns.rt:46:9
 returns-2 : tie.Need-returns-2
 returns-2 c =
     let p = c .before .before in
     let e = c .before .refusal-number .ensures in
     e ∙ freeing-record _ _ (sym (p .before .is-side .ensures) ∙ not-false _ (p .if1 .left)) (λ z. c .if2 .taken (e ∙ z))
 
--- src/taking_turns.rt:48:16
 shared-slice-read-is-held : tie.Need-shared-slice-read-is-held
 shared-slice-read-is-held c =
     let q = c .before in
     let h = long-enough _ (sym (q .before .refusal-number .ensures) ∙ q .if2 .left) in
     omega arith
 
--- src/taking_turns.rt:48:8
 is-held-requires : tie.Need-is-held-requires
 is-held-requires c κs = search needs
 
--- src/taking_turns.rt:49:9
 returns-3 : tie.Need-returns-3
 returns-3 c =
     let q = c .before .before .before in
@@ -50,7 +39,6 @@ returns-3 c =
     freeing-11 _ _ (sym (p .before .is-side .ensures) ∙ not-false _ (p .if1 .left)) (sym (q .before .refusal-number .ensures) ∙ q .if2 .left)
     (sym (c .before .is-held .ensures) ∙ c .if3 .taken)
 
--- src/taking_turns.rt:38:1
 returns-4 : tie.Need-returns-4
 returns-4 c =
     let q = c .before .before .before in

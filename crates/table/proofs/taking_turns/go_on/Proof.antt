@@ -1,3 +1,4 @@
+-- `go_on`: what the turns still to take come to is what the run comes to.
 use Prim.Native.Nat.{_-_}
 use native.Mathlib.Omega.{arith}
 use Rattle.table.specs.Sides.{sideOf}
@@ -7,10 +8,6 @@ use Rattle.table.proofs.Alternating.{Turning, turning-start, turning-ga
 use borrow.Author.Needs.{needs}
 use Rattle.table.proofs.taking_turns.go_on.Statement.{statement}
 use Rattle.table.proofs.taking_turns.go_on.Tie as tie
-use Rattle.table.proofs.taking_turns.go_on.Reads as reads
-use Rattle.table.proofs.taking_turns.go_on.Lts as lts
-use Rattle.table.proofs.counting.crossings_seen.Reads as crossings-seen-reads
-use Rattle.table.proofs.taking_turns.free_side.Reads as free-side-reads
 
 abbrev Inv-loop : tie.InvT-loop
 Inv-loop s₀ n allowance last₀ turns₀ side₀ s last turns side = Turning s₀ n allowance s last turns side
@@ -18,38 +15,31 @@ Inv-loop s₀ n allowance last₀ turns₀ side₀ s last turns side = Turning s
 abbrev μ-loop : tie.MeasureT-loop
 μ-loop s₀ n allowance last₀ turns₀ side₀ s last turns side = allowance - turns
 
--- src/taking_turns.rt:94:9
 crossings-seen-requires : tie.Need-crossings-seen-requires Inv-loop μ-loop
 crossings-seen-requires c κs = search needs
 
--- src/taking_turns.rt:97:5
 loop-holds : tie.Need-loop-holds Inv-loop μ-loop
 loop-holds c =
     let z = c .before .before .before in
     turning-start _ _ (z .pre .0) _ _ (z .pre .1) (c .crossings-seen .ensures)
 
--- src/taking_turns.rt:99:9
 free-side-requires : tie.Need-free-side-requires Inv-loop μ-loop
 free-side-requires c κs =
     let t = c .before .before .loop .inv in
     (t .stands, t .one)
 
--- src/taking_turns.rt:100:9
 crossings-seen-requires-2 : tie.Need-crossings-seen-requires-2 Inv-loop μ-loop
 crossings-seen-requires-2 c κs =
     let v = c .before .before .before in
     let l = v .before .before .before .loop in
     given-after _ _ (l .inv .stands) (sideOf (l .side)) (v .free-side .ensures)
 
--- src/taking_turns.rt:101:9
 add-turns : tie.Need-add-turns Inv-loop μ-loop
 add-turns c = search needs
 
--- src/taking_turns.rt:103:13
 same-length : tie.Need-same-length Inv-loop μ-loop
 same-length c = search needs
 
--- src/taking_turns.rt:103:13
 returns : tie.Need-returns Inv-loop μ-loop
 returns c =
     let v = c .before .before .before .before .before in
@@ -58,18 +48,15 @@ returns c =
     turning-stop _ _ (z .pre .0) _ _ _ _ _ (l .inv) (v .before .before .loop-test .taken) _ _ (v .free-side .ensures)
     (c .before .crossings-seen2 .ensures) (c .if1 .taken)
 
--- src/taking_turns.rt:109:16
 sub-side : tie.Need-sub-side Inv-loop μ-loop
 sub-side c =
     let l = c .before .before .before .before .before .before .before .before .loop in
     let h = side-most _ (l .inv .one) in
     omega arith
 
--- src/taking_turns.rt:97:5
 loop-less : tie.Need-loop-less Inv-loop μ-loop
 loop-less c = search needs
 
--- src/taking_turns.rt:97:5
 loop-again : tie.Need-loop-again Inv-loop μ-loop
 loop-again c =
     let v = c .before .before .before .before .before in
@@ -78,11 +65,9 @@ loop-again c =
     turning-gain _ _ (z .pre .0) _ _ _ _ _ (l .inv) (v .before .before .loop-test .taken) _ _ (v .free-side .ensures)
     (c .before .crossings-seen2 .ensures) (c .if1 .left)
 
--- src/taking_turns.rt:87:1
 same-length-2 : tie.Need-same-length-2 Inv-loop μ-loop
 same-length-2 c = search needs
 
--- src/taking_turns.rt:87:1
 returns-2 : tie.Need-returns-2 Inv-loop μ-loop
 returns-2 c =
     let z = c .before .before .before .before .before in

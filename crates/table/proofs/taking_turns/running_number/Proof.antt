@@ -1,3 +1,4 @@
+-- `running_number`: the refusals 12, 1 to 10 and 11 in that order.
 use mathlib.Core.Path.{sym, _∙_}
 use native.Mathlib.Omega.{arith}
 use Rattle.table.proofs.Outcomes.{long-enough}
@@ -6,42 +7,31 @@ use Rattle.table.proofs.Turns.{none-allowed, too-many, allowed}
 use borrow.Author.Needs.{needs}
 use Rattle.table.proofs.taking_turns.running_number.Statement.{statement}
 use Rattle.table.proofs.taking_turns.running_number.Tie as tie
-use Rattle.table.proofs.taking_turns.running_number.Reads as reads
-use Rattle.table.proofs.taking_turns.running_number.Lts as lts
-use Rattle.record.proofs.refusal_number.Reads as refusal-number-reads
-use Rattle.table.proofs.sides.is_held.Reads as is-held-reads
 
--- src/taking_turns.rt:123:9
 returns : tie.Need-returns
 returns c = running-12 _ _ (none-allowed _ (c .if1 .taken))
 
--- src/taking_turns.rt:126:9
 returns-2 : tie.Need-returns-2
 returns-2 c = running-12 _ _ (too-many _ (c .before .if1 .left) (c .if2 .taken))
 
--- src/taking_turns.rt:128:9
 refusal-number-requires : tie.Need-refusal-number-requires
 refusal-number-requires c κs = search needs
 
--- src/taking_turns.rt:130:9
 returns-3 : tie.Need-returns-3
 returns-3 c =
     let p = c .before .before in
     let e = c .before .refusal-number .ensures in
     e ∙ running-record _ _ (allowed _ (p .before .if1 .left) (p .if2 .left)) (λ z. c .if3 .taken (e ∙ z))
 
--- src/taking_turns.rt:132:16
 shared-slice-read-is-held : tie.Need-shared-slice-read-is-held
 shared-slice-read-is-held c =
     let q = c .before in
     let h = long-enough _ (sym (q .before .refusal-number .ensures) ∙ q .if3 .left) in
     omega arith
 
--- src/taking_turns.rt:132:8
 is-held-requires : tie.Need-is-held-requires
 is-held-requires c κs = search needs
 
--- src/taking_turns.rt:133:9
 returns-4 : tie.Need-returns-4
 returns-4 c =
     let q = c .before .before .before in
@@ -49,18 +39,15 @@ returns-4 c =
     running-11-left _ _ (allowed _ (p .before .if1 .left) (p .if2 .left)) (sym (q .before .refusal-number .ensures) ∙ q .if3 .left)
     (sym (c .before .is-held .ensures) ∙ c .if4 .taken)
 
--- src/taking_turns.rt:135:16
 shared-slice-read-is-held-2 : tie.Need-shared-slice-read-is-held-2
 shared-slice-read-is-held-2 c =
     let q = c .before .before .before .before in
     let h = long-enough _ (sym (q .before .refusal-number .ensures) ∙ q .if3 .left) in
     omega arith
 
--- src/taking_turns.rt:135:8
 is-held-requires-2 : tie.Need-is-held-requires-2
 is-held-requires-2 c κs = search needs
 
--- src/taking_turns.rt:136:9
 returns-5 : tie.Need-returns-5
 returns-5 c =
     let r = c .before .before .before in
@@ -69,7 +56,6 @@ returns-5 c =
     running-11-right _ _ (allowed _ (p .before .if1 .left) (p .if2 .left)) (sym (q .before .refusal-number .ensures) ∙ q .if3 .left)
     (sym (r .before .is-held .ensures) ∙ r .if4 .left) (sym (c .before .is-held2 .ensures) ∙ c .if5 .taken)
 
--- src/taking_turns.rt:119:1
 returns-6 : tie.Need-returns-6
 returns-6 c =
     let r = c .before .before .before in
