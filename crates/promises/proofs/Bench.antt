@@ -10,7 +10,7 @@ use Rattle.tanglegram.specs.Entanglement.{sum, displacement}
 use Rattle.trees.specs.Rule.{among, first, badRow}
 use Rattle.record.specs.Fields.{numbers, split, partsOf, packed}
 use Rattle.record.specs.Refusals.{all, isMark, isHold, noSize, breaksRule, oneToOne, isLayout, contents, heading, refusal}
-use Rattle.table.specs.Sides.{isSide, holds}
+use Rattle.standing.specs.Sides.{isSide, holds}
 use Rattle.table.specs.Refusals.{noAllowance, freeing, running}
 use Rattle.table.specs.Calls.{entangled}
 use Rattle.promises.specs.Bench.{Bench}

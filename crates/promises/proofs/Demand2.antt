@@ -20,13 +20,14 @@ use Rattle.record.specs.Fields.{sizeOf, partsOf}
 use Rattle.record.specs.Refusals.{refusal}
 use Rattle.record.specs.Meaning.{tableOf, layoutsOf, relaid}
 use Rattle.record.proofs.Meaning.{accepted-fair, accepted-fits}
-use Rattle.table.specs.Sides.{sideOf}
+use Rattle.standing.specs.Sides.{sideOf}
 use Rattle.table.specs.Refusals.{ordering, freeing}
-use Rattle.table.specs.Calls.{shownOrder, shownCount, freedLayouts, Orders, Frees}
+use Rattle.standing.specs.Shown.{shownOrder, shownCount}
+use Rattle.table.specs.Calls.{freedLayouts, Orders, Frees}
 use Rattle.table.specs.declared.answers.Freed.{Freed}
-use Rattle.table.proofs.AsItStands.{given, side-perm}
+use Rattle.standing.proofs.AsItStands.{given, side-perm}
 use Rattle.table.proofs.Outcomes.{ordering-good}
-use Rattle.table.proofs.Relaying.{freed-layouts}
+use Rattle.table.proofs.Freed.{freed-layouts}
 use Rattle.table.proofs.Turns.{freeing-good, freed-count}
 use Rattle.promises.specs.Demand2 as Demand2
 

@@ -16,9 +16,10 @@ use Rattle.record.specs.Refusals.{refusal}
 use Rattle.record.specs.Meaning.{tableOf, layoutsOf, relaid}
 use Rattle.record.proofs.Acceptance.{accepted-sized}
 use Rattle.record.proofs.Meaning.{accepted-fair, accepted-fits, fits-long, layouts-of-relaid, table-relaid}
-use Rattle.table.specs.Sides.{holds}
+use Rattle.standing.specs.Sides.{holds}
 use Rattle.table.specs.Refusals.{running}
-use Rattle.table.specs.Calls.{shownCount, ranTo}
+use Rattle.standing.specs.Shown.{shownCount}
+use Rattle.table.specs.Calls.{ranTo}
 use Rattle.table.proofs.Turns.{allowed, running-0}
 use Rattle.promises.specs.Demand3.{Demand3}
 

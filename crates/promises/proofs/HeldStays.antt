@@ -19,12 +19,14 @@ use Rattle.record.specs.Calls.{accepted}
 use Rattle.record.specs.Meaning.{tableOf, layoutsOf, relaid}
 use Rattle.record.proofs.Acceptance.{accepted-sized}
 use Rattle.record.proofs.Meaning.{accepted-fair, accepted-fits, fits-long, length-relaid, layouts-of-relaid}
-use Rattle.table.specs.Sides.{sideOf, holds}
-use Rattle.table.specs.Refusals.{Hand, freeing, running, handing}
-use Rattle.table.specs.Calls.{freedLayouts, ranTo, handed}
+use Rattle.standing.specs.Sides.{sideOf, holds}
+use Rattle.hands.specs.Refusals.{Hand, handing}
+use Rattle.table.specs.Refusals.{freeing, running}
+use Rattle.table.specs.Calls.{freedLayouts, ranTo}
+use Rattle.hands.specs.Calls.{handed}
 use Rattle.table.proofs.Turns.{freeing-good, running-good}
-use Rattle.table.proofs.HandLists.{handing-accepted}
-use Rattle.table.proofs.Handed.{held-kept}
+use Rattle.hands.proofs.HandLists.{handing-accepted}
+use Rattle.hands.proofs.Handed.{held-kept}
 use Rattle.promises.specs.HeldStays as HeldStays
 use Rattle.promises.specs.HeldStays.{Keeps}
 

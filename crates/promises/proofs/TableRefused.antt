@@ -5,8 +5,11 @@ use borrow.Author.Tests.{ne-eqb}
 use Rattle.record.specs.Refusals.{refusal}
 use Rattle.table.specs.declared.answers.Entangled.{Entangled}
 use Rattle.table.specs.declared.answers.Entangled.the-variants.{Ratio, NoRatio, Refused}
-use Rattle.table.specs.Refusals.{ordering, freeing, running, handing, comparing}
-use Rattle.table.specs.Calls.{entangled, numberOf, displacedIn, worstIn, betterPart}
+use Rattle.table.specs.Refusals.{ordering, freeing, running}
+use Rattle.hands.specs.Refusals.{handing}
+use Rattle.proposals.specs.Refusals.{comparing}
+use Rattle.table.specs.Calls.{entangled, numberOf, displacedIn, worstIn}
+use Rattle.proposals.specs.Calls.{betterPart}
 use Rattle.promises.specs.TableRefused.{TableRefused}
 
 pub table-refused : TableRefused

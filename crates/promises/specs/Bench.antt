@@ -12,7 +12,8 @@ use Rattle.record.specs.Fields.{given, packed}
 use Rattle.record.specs.Refusals.{refusal}
 use Rattle.record.specs.Meaning.{tableOf}
 use Rattle.table.specs.Refusals.{freeing, running}
-use Rattle.table.specs.Calls.{shownOrder, shownCount, entangled, displacedIn, worstIn, freedLayouts, ranTo}
+use Rattle.standing.specs.Shown.{shownOrder, shownCount}
+use Rattle.table.specs.Calls.{entangled, displacedIn, worstIn, freedLayouts, ranTo}
 
 -- A line's record: hold `N`.
 abbrev pub recordOf : Given → List ℕ

@@ -16,8 +16,9 @@ use Rattle.record.specs.Fields.{sizeOf, parts}
 use Rattle.record.specs.Meaning.{tableOf, layoutsOf}
 use Rattle.table.specs.declared.answers.Counted.{Counted}
 use Rattle.table.specs.declared.answers.Freed.{Freed}
-use Rattle.table.specs.Sides.{sideOf}
-use Rattle.table.specs.Calls.{shownOrder, shownCount, Orders, Counts, Frees}
+use Rattle.standing.specs.Sides.{sideOf}
+use Rattle.standing.specs.Shown.{shownOrder, shownCount}
+use Rattle.table.specs.Calls.{Orders, Counts, Frees}
 
 pub record Demand2 : Type 0 where
   -- An order is the one that the side's layout gives, and compatible with its tree.

@@ -10,7 +10,8 @@ use Rattle.record.specs.Fields.{holdOf}
 use Rattle.record.specs.Refusals.{refusal}
 use Rattle.record.specs.Meaning.{tableOf, layoutsOf, relaid}
 use Rattle.table.specs.declared.answers.Ran.{Ran}
-use Rattle.table.specs.Calls.{shownCount, Runs}
+use Rattle.standing.specs.Shown.{shownCount}
+use Rattle.table.specs.Calls.{Runs}
 
 -- The layouts after j turns, the left first.
 abbrev pub layoutsAfter : List ℕ → ℕ → Layouts

@@ -12,9 +12,10 @@ use Rattle.record.specs.Meaning.{layoutsOf}
 use Rattle.record.specs.declared.refusal.Refusal.{Refusal}
 use Rattle.table.specs.declared.answers.Freed.{Freed}
 use Rattle.table.specs.declared.answers.Ran.{Ran}
-use Rattle.table.specs.Sides.{holds}
-use Rattle.table.specs.Refusals.{Hand}
-use Rattle.table.specs.Calls.{Frees, Runs, Hands}
+use Rattle.standing.specs.Sides.{holds}
+use Rattle.hands.specs.Refusals.{Hand}
+use Rattle.table.specs.Calls.{Frees, Runs}
+use Rattle.hands.specs.Calls.{Hands}
 
 -- s′ has the bytes of s but for layout bytes, and of a held side those too.
 pub record Keeps (s s′ : List ℕ) : Type 0 where

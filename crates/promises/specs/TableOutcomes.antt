@@ -8,8 +8,10 @@ use Rattle.table.specs.declared.answers.Counted.{Counted}
 use Rattle.table.specs.declared.answers.Freed.{Freed}
 use Rattle.table.specs.declared.answers.Ran.{Ran}
 use Rattle.table.specs.declared.answers.Entangled.{Entangled}
-use Rattle.table.specs.Refusals.{Hand}
-use Rattle.table.specs.Calls.{Orders, Counts, Entangles, Frees, Runs, Hands, Betters, BetterChecks}
+use Rattle.hands.specs.Refusals.{Hand}
+use Rattle.table.specs.Calls.{Orders, Counts, Entangles, Frees, Runs}
+use Rattle.hands.specs.Calls.{Hands}
+use Rattle.proposals.specs.Calls.{Betters, BetterChecks}
 use Rattle.promises.specs.RecordOutcomes.{Outcome}
 
 pub record TableOutcomes : Type 0 where

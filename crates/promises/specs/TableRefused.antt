@@ -9,8 +9,11 @@ use Rattle.table.specs.declared.answers.Counted.{Counted}
 use Rattle.table.specs.declared.answers.Freed.{Freed}
 use Rattle.table.specs.declared.answers.Ran.{Ran}
 use Rattle.table.specs.declared.answers.Entangled.{Entangled}
-use Rattle.table.specs.Refusals.{Hand, comparing}
-use Rattle.table.specs.Calls.{Orders, Counts, Entangles, numberOf, displacedIn, worstIn, Frees, Runs, Hands, Betters}
+use Rattle.hands.specs.Refusals.{Hand}
+use Rattle.proposals.specs.Refusals.{comparing}
+use Rattle.table.specs.Calls.{Orders, Counts, Entangles, numberOf, displacedIn, worstIn, Frees, Runs}
+use Rattle.hands.specs.Calls.{Hands}
+use Rattle.proposals.specs.Calls.{Betters}
 
 pub record TableRefused : Type 0 where
   pub order : (s : List ℕ) (side : ℕ) (out : List ℕ) (answer : Refusal) (out′ : List ℕ) → Orders s side out answer out′ →

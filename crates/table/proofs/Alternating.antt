@@ -1,23 +1,23 @@
 -- A run's loop: what holds whenever the next turn is to be decided, at its start, after a turn that gained, and at its end.
 use Prim.Native.Nat.{ℕ, zero, suc, _+_, _-_, _≤_, _<_}
-use mathlib.Core.Path.{_≡_, refl, sym, ap, ap₂, _∙_, subst}
-use mathlib.Core.Bool.{Bool, true, false}
+use mathlib.Core.Path.{_≡_, refl, sym, ap, ap₂, _∙_}
+use mathlib.Core.Bool.{true}
 use mathlib.Core.List.{List}
 use native.Mathlib.Decide.{ℕ-discrete}
 use native.Mathlib.Omega.{arith}
-use lib.ListN.{length}
 use Rattle.tanglegram.specs.Lists.{bit}
-use Rattle.tanglegram.specs.Run.{Side, left, right, other, End, more, go, run}
-use Rattle.tanglegram.specs.Table.{Table, Layouts, crossings, free}
+use Rattle.tanglegram.specs.Run.{left, right, other, End, more, go, run}
+use Rattle.tanglegram.specs.Table.{crossings, free}
 use Rattle.tanglegram.proofs.Run.{go-gain, go-stop}
-use Rattle.record.specs.Fields.{sizeOf, parts}
+use Rattle.record.specs.Fields.{sizeOf}
 use Rattle.record.specs.Meaning.{tableOf, layoutsOf, relaid}
 use Rattle.record.proofs.Acceptance.{accepted-sized}
 use Rattle.record.proofs.Meaning.{length-left, length-right, relaid-again, relaid-same}
-use Rattle.table.specs.Sides.{isSide, sideOf, Given}
-use Rattle.table.specs.Calls.{shownCount, ranTo, onward, Turned}
-use Rattle.table.proofs.FarEnds.{second-side}
-use Rattle.table.proofs.Relaying.{freed-table, freed-layouts, freed-again}
+use Rattle.standing.specs.Sides.{isSide, sideOf, Given}
+use Rattle.standing.specs.Shown.{shownCount}
+use Rattle.table.specs.Calls.{ranTo, onward, Turned}
+use Rattle.standing.proofs.FarEnds.{second-side}
+use Rattle.table.proofs.Freed.{freed-table, freed-layouts, freed-again}
 use Rattle.table.proofs.Turns.{given-after}
 
 -- an end with j turns more

@@ -1,14 +1,4 @@
-pub mod AsItStands
-pub mod FarEnds
-pub mod Counts
 pub mod Outcomes
-pub mod Relaying
+pub mod Freed
 pub mod Turns
 pub mod Alternating
-pub mod Proposed
-pub mod Compared
-pub mod HandLists
-pub mod TurnedRows
-pub mod Handed
-pub mod ByHand
-pub mod Again

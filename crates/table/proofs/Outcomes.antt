@@ -1,6 +1,6 @@
 -- From what a call found to its statement.
 use Prim.Native.Nat.{ℕ, _≤_, _<_}
-use mathlib.Core.Path.{_≡_, refl, sym, ap, _∙_, subst}
+use mathlib.Core.Path.{_≡_, refl, sym, ap, _∙_}
 use mathlib.Core.Logic.{_≢_}
 use mathlib.Core.Bool.{true, false}
 use mathlib.Core.List.{List, _++_}
@@ -11,32 +11,24 @@ use lib.ListN.{length, take, drop}
 use lib.Seq.{sets}
 use Rattle.tanglegram.specs.Entanglement.{displacement, worst}
 use Rattle.tanglegram.specs.Run.{left, right}
-use Rattle.tanglegram.specs.Table.{orderOf}
 use Rattle.tanglegram.proofs.Lists.{all-length}
 use Rattle.record.specs.Fields.{sizeOf, parts}
-use Rattle.record.specs.Refusals.{orElse, refusal}
-use Rattle.record.specs.Calls.{refused, lent}
-use Rattle.record.specs.Meaning.{tableOf, layoutsOf}
-use Rattle.record.proofs.Acceptance.{accepted-sized, else-first, else-second, none-both}
+use Rattle.record.specs.Refusals.{refusal}
+use Rattle.record.specs.Calls.{refused}
+use Rattle.record.proofs.Acceptance.{else-first, none-both}
 use Rattle.record.proofs.Heading.{none-first, not-no}
 use Rattle.record.proofs.Outcomes.{lent-refused, lent-accepted}
 use Rattle.record.proofs.Stores.{sets-front}
 use Rattle.table.specs.declared.answers.Entangled.the-variants.{Ratio, NoRatio, Refused}
-use Rattle.table.specs.Sides.{isSide, sideOf, Given}
+use Rattle.standing.specs.Sides.{isSide, sideOf}
 use Rattle.table.specs.Refusals.{ordering}
-use Rattle.table.specs.Calls.{shownOrder, shownCount, Orders, Counts, ratio, entangled, Entangles}
-use Rattle.table.proofs.AsItStands.{side-perm}
-use Rattle.table.proofs.FarEnds.{order-taken}
-
--- ---- an accepted record
+use Rattle.standing.specs.Shown.{shownOrder, shownCount}
+use Rattle.table.specs.Calls.{Orders, Counts, ratio, entangled, Entangles}
+use Rattle.standing.proofs.AsItStands.{side-perm}
+use Rattle.standing.proofs.FarEnds.{order-taken}
+use Rattle.standing.proofs.AsItStands.{given-size}
 
 module _ (s : List ℕ) where
-  pub long-enough : refusal s ≡ 0 → 8 ≤ length s
-  long-enough a = let z = accepted-sized s a in omega arith
-
-  pub given-size : {n : ℕ} → refusal s ≡ 0 → n ≡ sizeOf s → Given s n
-  given-size a e = subst (Given s) (sym e) (record { accepted = a; sized = accepted-sized s a })
-
   -- ---- counts
 
   pub count-refused : {k : ℕ} → k ≡ refusal s → k ≢ 0 → Counts s (record { refusal = record { number = k }; count = 0 })

@@ -2,41 +2,22 @@
 use Prim.Native.Nat.{ℕ, zero, suc, _≤_, _<_}
 use mathlib.Core.Path.{_≡_, refl, sym, ap, _∙_, subst}
 use mathlib.Core.Logic.{_≢_}
-use mathlib.Core.Bool.{Bool, true, false, cond, _||_, true≢false}
+use mathlib.Core.Bool.{true, false, true≢false}
 use mathlib.Core.List.{List}
 use native.Mathlib.Omega.{arith}
 use borrow.Author.Tests.{eq-eqb, ne-eqb, lt-ltb, le-ltb}
-use lib.Dec.{eqb}
 use Rattle.tanglegram.specs.Run.{Side, left, right}
 use Rattle.tanglegram.specs.Table.{crossings, free}
-use Rattle.record.specs.Fields.{holdOf, sizeOf}
+use Rattle.record.specs.Fields.{holdOf}
 use Rattle.record.specs.Refusals.{refusal}
 use Rattle.record.specs.Meaning.{tableOf, layoutsOf, relaid}
 use Rattle.record.proofs.Acceptance.{else-first, none-both}
 use Rattle.record.proofs.Heading.{none-first, not-no}
-use Rattle.table.specs.Sides.{isSide, sideOf, holds, Given}
+use Rattle.standing.specs.Sides.{isSide, sideOf, holds, Given}
 use Rattle.table.specs.Refusals.{freeing, noAllowance, running}
-use Rattle.table.specs.Calls.{shownCount, freedLayouts, Frees, ranTo, Turned, Runs}
-use Rattle.table.proofs.Relaying.{freed-given, freed-table, freed-layouts}
-
--- ---- what a hold holds
-
-pub both-held : (side : Side) → holds 66 side ≡ true
-unfolding holds
-both-held left = refl
-both-held right = refl
-
-or-none : (b : Bool) → (b || false) ≡ b
-or-none true = refl
-or-none false = refl
-
-pub left-held : (hold : ℕ) → hold ≢ 66 → eqb hold 76 ≡ holds hold left
-unfolding holds
-left-held hold h = rw (ne-eqb hold 66 h) (sym (or-none (eqb hold 76)))
-
-pub right-held : (hold : ℕ) → hold ≢ 66 → eqb hold 82 ≡ holds hold right
-unfolding holds
-right-held hold h = rw (ne-eqb hold 66 h) (sym (or-none (eqb hold 82)))
+use Rattle.standing.specs.Shown.{shownCount}
+use Rattle.table.specs.Calls.{freedLayouts, Frees, ranTo, Turned, Runs}
+use Rattle.table.proofs.Freed.{freed-given, freed-table, freed-layouts}
 
 -- ---- the refusals
 

@@ -2,19 +2,17 @@
 use Prim.Native.Nat.{ℕ, _-_}
 use mathlib.Core.Path.{_≡_}
 use mathlib.Core.Bool.{Bool, true, false, cond}
-use mathlib.Core.List.{List, [], _∷_}
-use lib.Dec.{eqb, leb}
+use mathlib.Core.List.{List}
+use lib.Dec.{eqb}
 use lib.Ieee.{Float, binary64, div, ofInt}
 use lib.IntN.{pos}
-use lib.ListN.{take}
 use Rattle.tanglegram.specs.Lists.{bit}
 use Rattle.tanglegram.specs.Crossings.{count}
-use Rattle.tanglegram.specs.Entanglement.{displacement, worst}
-use Rattle.tanglegram.specs.Run.{Side, left, right, End, more, go, run}
-use Rattle.tanglegram.specs.Order.{turnRow}
-use Rattle.tanglegram.specs.Table.{Layouts, layout, put, orderOf, crossings, free}
+use Rattle.tanglegram.specs.Entanglement.{worst}
+use Rattle.tanglegram.specs.Run.{right, End, more, go, run}
+use Rattle.tanglegram.specs.Table.{Layouts, crossings, free}
 use Rattle.record.specs.declared.refusal.Refusal.{Refusal}
-use Rattle.record.specs.Fields.{sizeOf, parts}
+use Rattle.record.specs.Fields.{sizeOf}
 use Rattle.record.specs.Refusals.{refusal}
 use Rattle.record.specs.Calls.{refused, accepted, lent, orZero}
 use Rattle.record.specs.Meaning.{tableOf, layoutsOf, relaid}
@@ -23,15 +21,9 @@ use Rattle.table.specs.declared.answers.Freed.{Freed}
 use Rattle.table.specs.declared.answers.Ran.{Ran}
 use Rattle.table.specs.declared.answers.Entangled.{Entangled}
 use Rattle.table.specs.declared.answers.Entangled.the-variants.{Ratio, NoRatio, Refused}
-use Rattle.table.specs.Sides.{sideOf}
-use Rattle.table.specs.Refusals.{ordering, freeing, running, Hand, handing, comparing}
-
--- What a record shows as it stands: a side's order, and the count.
-abbrev pub shownOrder : List ℕ → Side → List ℕ
-shownOrder s side = orderOf (tableOf s) (layoutsOf s) side
-
-abbrev pub shownCount : List ℕ → ℕ
-shownCount s = crossings (tableOf s) (layoutsOf s)
+use Rattle.standing.specs.Sides.{sideOf}
+use Rattle.table.specs.Refusals.{ordering, freeing, running}
+use Rattle.standing.specs.Shown.{shownOrder, shownCount, shownDisplacement}
 
 -- ---- order, count, pairs
 
@@ -46,9 +38,6 @@ pub record Counts (s : List ℕ) (answer : Counted) : Type 0 where
 
 unfoldable pub ratio : ℕ → ℕ → Float
 ratio d w = div binary64 (ofInt binary64 (pos d)) (ofInt binary64 (pos w))
-
-abbrev pub shownDisplacement : List ℕ → ℕ
-shownDisplacement s = displacement (sizeOf s) (parts s .links) (shownOrder s left) (shownOrder s right)
 
 abbrev pub either : Bool → Entangled → Entangled → Entangled
 either true a b = a
@@ -120,33 +109,3 @@ pub record Runs (s : List ℕ) (allowance : ℕ) (answer : Ran) (s′ : List ℕ
     settled = orZero (running s allowance) (bit (ranTo s allowance .settled));
   }
   pub leaves : s′ ≡ cond (accepted (running s allowance)) (relaid s (ranTo s allowance .last)) s
-
--- ---- hands: each entry turns one row over, entry after entry
-
-unfoldable pub handed : Layouts → List Hand → Layouts
-handed at [] = at
-handed at (h ∷ hs) = handed (put (sideOf (h .side)) (turnRow (layout at (sideOf (h .side))) (h .row)) at) hs
-
-pub record Hands (s : List ℕ) (hands : List Hand) (answer : Refusal) (s′ : List ℕ) : Type 0 where
-  pub answers : answer ≡ refused (handing s hands)
-  pub leaves : s′ ≡ cond (accepted (handing s hands)) (relaid s (handed (layoutsOf s) hands)) s
-
--- ---- better of two
-
--- The count with the first n entries of xs for a side's order, against the other side's present order.
-abbrev pub countWith : List ℕ → Side → List ℕ → ℕ
-countWith s left xs = count (sizeOf s) (parts s .links) (take (sizeOf s) xs) (shownOrder s right)
-countWith s right xs = count (sizeOf s) (parts s .links) (shownOrder s left) (take (sizeOf s) xs)
-
--- The first n entries of the order that crosses less, of the first on a tie; none where anything is refused.
-unfoldable pub betterPart : List ℕ → ℕ → List ℕ → List ℕ → List ℕ
-unfolding comparing
-betterPart s side first second =
-    let fewer = leb (countWith s (sideOf side) first) (countWith s (sideOf side) second) in
-    cond (accepted (comparing s side first second)) (take (sizeOf s) (cond fewer first second)) []
-
-pub record Betters (s : List ℕ) (side : ℕ) (first second part : List ℕ) : Type 0 where
-  pub answers : part ≡ betterPart s side first second
-
-pub record BetterChecks (s : List ℕ) (side : ℕ) (first second : List ℕ) (answer : Refusal) : Type 0 where
-  pub answers : answer ≡ refused (comparing s side first second)

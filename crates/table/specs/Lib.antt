@@ -1,4 +1,2 @@
-pub mod Sides
 pub mod Refusals
 pub mod Calls
-pub mod Entries

@@ -1,18 +1,8 @@
-// The calls of document 01 on any bytes.
+// The calls on any bytes that show a record and take turns: order, count, pairs, entanglement, free, run.
 pub mod answers;
-mod comparing;
-mod counting;
-pub mod hand_entries;
-mod handing;
 mod showing;
-mod sides;
-mod standing;
 mod taking_turns;
 
-pub use comparing::better;
-pub use comparing::better_check;
-pub use hand_entries::hands_named;
-pub use handing::hands;
 pub use showing::count;
 pub use showing::entanglement;
 pub use showing::order;

@@ -4,15 +4,15 @@ ghost use Rattle.table.specs.Calls.{Counts, Entangles, Orders};
 ghost use Rattle.table.specs.Refusals.{ordering};
 use crate::answers::Counted;
 use crate::answers::Entangled;
-use crate::counting::crossings_paired;
-use crate::counting::crossings_seen;
-use crate::counting::displacement_of;
-use crate::sides::is_side;
-use crate::standing::copy_order;
-use crate::standing::side_order;
 use record::refusal::ROOM;
 use record::refusal::Refusal;
 use record::refusal::SIDE;
+use standing::copy_order;
+use standing::crossings_paired;
+use standing::crossings_seen;
+use standing::displacement_of;
+use standing::is_side;
+use standing::side_order;
 
 // The refusal of asking for a side's order, or 0.
 fn ordering_number(s: &[u8], side: u16, out: &[u16]) -> u16

@@ -5,20 +5,20 @@ ghost use Prim.Native.Nat.{_≤_};
 ghost use Rattle.record.specs.Meaning.{layoutsOf, relaid, tableOf};
 ghost use Rattle.table.specs.Calls.{Frees, onward, ranTo, Runs, Turned};
 ghost use Rattle.table.specs.Refusals.{freeing, running};
-ghost use Rattle.table.specs.Sides.{Given, isSide, sideOf};
+ghost use Rattle.standing.specs.Sides.{Given, isSide, sideOf};
 ghost use Rattle.tanglegram.specs.Table.{free as freedBy};
 use crate::answers::Freed;
 use crate::answers::Ran;
-use crate::counting::crossings_seen;
-use crate::sides::is_held;
-use crate::sides::is_side;
-use crate::standing::far_places;
-use crate::standing::layout_at;
-use crate::standing::rows_at;
 use record::refusal::ALLOWANCE;
 use record::refusal::HELD;
 use record::refusal::Refusal;
 use record::refusal::SIDE;
+use standing::crossings_seen;
+use standing::far_places;
+use standing::is_held;
+use standing::is_side;
+use standing::layout_at;
+use standing::rows_at;
 
 // Frees a side: its layout bytes in the record, and no other byte.
 pub fn free_side(s: &mut [u8], n: u16, side: u16)

@@ -82,14 +82,14 @@ fn by_hand() {
     title(b"hands");
     let mut s = case_two(b'R');
     let good = [65538u32, 65539];
-    let done = table::hands(&mut s, &good);
+    let done = hands::hands(&mut s, &good);
     line(b"left 2, left 3", done.number);
     counted(b"count", table::count(&s));
     let held = [65538u32, 131073];
-    let no = table::hands(&mut s, &held);
+    let no = hands::hands(&mut s, &held);
     line(b"left 2, right 1, held", no.number);
     let high = [65538u32, 65540];
-    let none = table::hands(&mut s, &high);
+    let none = hands::hands(&mut s, &high);
     line(b"left 2, left 4", none.number);
     counted(b"count", table::count(&s));
 }
@@ -100,12 +100,12 @@ fn proposed() {
     let s = case_two(b'N');
     let first = [4u16, 3, 1, 2];
     let second = [1u16, 2, 3, 4];
-    let ok = table::better_check(&s, 1, &first, &second);
+    let ok = proposals::better_check(&s, 1, &first, &second);
     line(b"check", ok.number);
-    entries(table::better(&s, 1, &first, &second));
-    entries(table::better(&s, 1, &second, &first));
+    entries(proposals::better(&s, 1, &first, &second));
+    entries(proposals::better(&s, 1, &second, &first));
     let third = [1u16, 3, 2, 4];
-    let bad = table::better_check(&s, 1, &first, &third);
+    let bad = proposals::better_check(&s, 1, &first, &third);
     line(b"not an order of the left", bad.number);
 }
 

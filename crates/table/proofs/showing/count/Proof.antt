@@ -1,6 +1,7 @@
 -- `count`: a refused record answers 0; an accepted one is counted by seen places.
 use mathlib.Core.Path.{sym, _∙_}
-use Rattle.table.proofs.Outcomes.{long-enough, given-size, count-refused, count-accepted}
+use Rattle.standing.proofs.AsItStands.{long-enough, given-size}
+use Rattle.table.proofs.Outcomes.{count-refused, count-accepted}
 use borrow.Author.Needs.{needs}
 use Rattle.table.proofs.showing.count.Statement.{statement}
 use Rattle.table.proofs.showing.count.Tie as tie

@@ -1,7 +1,8 @@
 -- `entanglement`: a refusal, a single leaf, and the ratio of two numbers below 2 to the 53.
 use mathlib.Core.Path.{sym, _∙_}
 use Rattle.table.specs.Calls.{ratio}
-use Rattle.table.proofs.Outcomes.{long-enough, given-size, entangled-refused, entangled-none, entangled-ratio}
+use Rattle.standing.proofs.AsItStands.{long-enough, given-size}
+use Rattle.table.proofs.Outcomes.{entangled-refused, entangled-none, entangled-ratio}
 use borrow.Author.Needs.{needs}
 use Rattle.table.proofs.showing.entanglement.Statement.{statement}
 use Rattle.table.proofs.showing.entanglement.Tie as tie

@@ -1,9 +1,10 @@
 -- `order`: a refused call leaves the buffer; otherwise the order stands in its first places.
 use mathlib.Core.Path.{refl, sym, _∙_}
 use native.Mathlib.Omega.{arith}
-use Rattle.table.specs.Sides.{sideOf}
-use Rattle.table.proofs.FarEnds.{order-long}
-use Rattle.table.proofs.Outcomes.{long-enough, given-size, ordering-good, order-refused, order-accepted}
+use Rattle.standing.specs.Sides.{sideOf}
+use Rattle.standing.proofs.FarEnds.{order-long}
+use Rattle.standing.proofs.AsItStands.{long-enough, given-size}
+use Rattle.table.proofs.Outcomes.{ordering-good, order-refused, order-accepted}
 use borrow.Author.Needs.{needs}
 use Rattle.table.proofs.showing.order.Statement.{statement}
 use Rattle.table.proofs.showing.order.Tie as tie

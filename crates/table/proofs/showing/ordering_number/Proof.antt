@@ -1,7 +1,8 @@
 -- `ordering_number`: the refusals 13, 1 to 10 and 14 in that order.
 use mathlib.Core.Path.{sym, _∙_}
 use borrow.Author.Tests.{not-true, not-false}
-use Rattle.table.proofs.Outcomes.{long-enough, ordering-13, ordering-record, ordering-14, ordering-0}
+use Rattle.standing.proofs.AsItStands.{long-enough}
+use Rattle.table.proofs.Outcomes.{ordering-13, ordering-record, ordering-14, ordering-0}
 use borrow.Author.Needs.{needs}
 use Rattle.table.proofs.showing.ordering_number.Statement.{statement}
 use Rattle.table.proofs.showing.ordering_number.Tie as tie

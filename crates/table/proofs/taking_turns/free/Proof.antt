@@ -1,7 +1,7 @@
 -- `free`: a refused call leaves every byte; otherwise both counts and the side freed.
 use mathlib.Core.Path.{sym, _∙_}
-use Rattle.table.specs.Sides.{sideOf}
-use Rattle.table.proofs.Outcomes.{long-enough, given-size}
+use Rattle.standing.specs.Sides.{sideOf}
+use Rattle.standing.proofs.AsItStands.{long-enough, given-size}
 use Rattle.table.proofs.Turns.{freeing-good, free-refused, free-accepted, given-after}
 use borrow.Author.Needs.{needs}
 use Rattle.table.proofs.taking_turns.free.Statement.{statement}

@@ -8,10 +8,11 @@ use Rattle.tanglegram.specs.Table.{layout, put}
 use Rattle.crossings.specs.Arrays.{at}
 use Rattle.freeing.specs.Row.{Apart}
 use Rattle.record.specs.Meaning.{layoutsOf, relaid}
-use Rattle.table.specs.Sides.{sideOf}
-use Rattle.table.proofs.AsItStands.{rows-within, layout-within, part-layout, length-part, filled-good, filled-size, filled-tree}
-use Rattle.table.proofs.Counts.{far-apart-side}
-use Rattle.table.proofs.Relaying.{relaid-mid, freed-held}
+use Rattle.standing.specs.Sides.{sideOf}
+use Rattle.standing.proofs.AsItStands.{rows-within, layout-within, part-layout, length-part, filled-good, filled-size, filled-tree}
+use Rattle.standing.proofs.Counts.{far-apart-side}
+use Rattle.standing.proofs.Relaying.{relaid-mid}
+use Rattle.table.proofs.Freed.{freed-held}
 use borrow.Author.Needs.{needs}
 use Rattle.table.proofs.taking_turns.free_side.Statement.{statement}
 use Rattle.table.proofs.taking_turns.free_side.Tie as tie

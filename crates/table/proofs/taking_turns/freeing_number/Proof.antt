@@ -2,7 +2,7 @@
 use mathlib.Core.Path.{sym, _∙_}
 use native.Mathlib.Omega.{arith}
 use borrow.Author.Tests.{not-true, not-false}
-use Rattle.table.proofs.Outcomes.{long-enough}
+use Rattle.standing.proofs.AsItStands.{long-enough}
 use Rattle.table.proofs.Turns.{freeing-13, freeing-record, freeing-11, freeing-0}
 use borrow.Author.Needs.{needs}
 use Rattle.table.proofs.taking_turns.freeing_number.Statement.{statement}

@@ -1,8 +1,8 @@
 -- `go_on`: what the turns still to take come to is what the run comes to.
 use Prim.Native.Nat.{_-_}
 use native.Mathlib.Omega.{arith}
-use Rattle.table.specs.Sides.{sideOf}
-use Rattle.table.proofs.FarEnds.{side-most}
+use Rattle.standing.specs.Sides.{sideOf}
+use Rattle.standing.proofs.FarEnds.{side-most}
 use Rattle.table.proofs.Turns.{given-after}
 use Rattle.table.proofs.Alternating.{Turning, turning-start, turning-gain, turning-stop, turning-end}
 use borrow.Author.Needs.{needs}

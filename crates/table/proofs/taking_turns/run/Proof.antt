@@ -1,6 +1,6 @@
 -- `run`: a refused call leaves every byte; otherwise the turns as taken.
 use mathlib.Core.Path.{sym, _∙_}
-use Rattle.table.proofs.Outcomes.{long-enough, given-size}
+use Rattle.standing.proofs.AsItStands.{long-enough, given-size}
 use Rattle.table.proofs.Turns.{running-good, allowance-some, run-refused, run-accepted}
 use borrow.Author.Needs.{needs}
 use Rattle.table.proofs.taking_turns.run.Statement.{statement}

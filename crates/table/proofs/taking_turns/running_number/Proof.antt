@@ -1,7 +1,7 @@
 -- `running_number`: the refusals 12, 1 to 10 and 11 in that order.
 use mathlib.Core.Path.{sym, _∙_}
 use native.Mathlib.Omega.{arith}
-use Rattle.table.proofs.Outcomes.{long-enough}
+use Rattle.standing.proofs.AsItStands.{long-enough}
 use Rattle.table.proofs.Turns.{running-12, running-record, running-11-left, running-11-right, running-0}
 use Rattle.table.proofs.Turns.{none-allowed, too-many, allowed}
 use borrow.Author.Needs.{needs}

@@ -1,6 +1,6 @@
 -- `take_turns`: the left first, then the turns after it.
 use Rattle.tanglegram.specs.Run.{left}
-use Rattle.table.proofs.FarEnds.{is-left}
+use Rattle.standing.proofs.FarEnds.{is-left}
 use Rattle.table.proofs.Turns.{given-after}
 use Rattle.table.proofs.Alternating.{first-turn}
 use borrow.Author.Needs.{needs}

@@ -1,0 +1,59 @@
+-- `table::handing::turn_hand` meets its contract: the byte stored is the record laid anew (`turned-stored`).
+use mathlib.Core.Path.{refl}
+use native.Mathlib.Omega.{arith}
+use Rattle.standing.specs.Sides.{sideOf}
+use Rattle.standing.proofs.AsItStands.{layout-within}
+use Rattle.hands.proofs.TurnedRows.{turned-stored}
+use borrow.Author.Needs.{needs}
+use Rattle.hands.proofs.handing.turn_hand.Statement.{statement}
+use Rattle.hands.proofs.handing.turn_hand.Tie as tie
+
+layout-at-requires : tie.Need-layout-at-requires
+layout-at-requires c κs = search needs
+
+sub-at : tie.Need-sub-at
+sub-at c = search needs
+
+add-at : tie.Need-add-at
+add-at c =
+    let z = c .before .before in
+    let h = layout-within _ _ (z .pre .0) (sideOf (z .args .side)) in
+    omega (arith, c .layout-at .ensures, z .pre .1)
+
+slice-read-turned-over : tie.Need-slice-read-turned-over
+slice-read-turned-over c =
+    let z = c .before .before .before in
+    let h = layout-within _ _ (z .pre .0) (sideOf (z .args .side)) in
+    omega (arith, c .before .layout-at .ensures, z .pre .1)
+
+turned-over-requires : tie.Need-turned-over-requires
+turned-over-requires c κs = search needs
+
+slice-write-s : tie.Need-slice-write-s
+slice-write-s c =
+    let z = c .before .before .before .before in
+    let h = layout-within _ _ (z .pre .0) (sideOf (z .args .side)) in
+    omega (arith, c .before .before .layout-at .ensures, z .pre .1)
+
+same-length : tie.Need-same-length
+same-length c = search needs
+
+returns : tie.Need-returns
+returns c =
+    let z = c .before .before .before .before in
+    let e = c .before .before .layout-at .ensures in
+    let a = z .args in
+    rw (c .turned-over .ensures) (turned-stored _ _ (z .pre .0) (a .side) (a .row) (z .pre .1 .0) (z .pre .1 .1) e refl)
+
+pub turn-hand-spec : {M : Type 1} → statement M
+turn-hand-spec =
+    tie.close
+    (tie.spec
+    layout-at-requires
+    sub-at
+    add-at
+    slice-read-turned-over
+    turned-over-requires
+    slice-write-s
+    same-length
+    returns)

@@ -1,0 +1,2 @@
+pub mod Proposed
+pub mod Compared

@@ -1,0 +1,14 @@
+-- `better_check`: its answer is the number of `comparing`.
+use Rattle.proposals.proofs.Compared.{better-checked}
+use borrow.Author.Needs.{needs}
+use Rattle.proposals.proofs.comparing.better_check.Statement.{statement}
+use Rattle.proposals.proofs.comparing.better_check.Tie as tie
+
+comparing-number-requires : tie.Need-comparing-number-requires
+comparing-number-requires c κs = search needs
+
+returns : tie.Need-returns
+returns c = better-checked _ _ _ _ (c .comparing-number .ensures)
+
+pub better-check-spec : {M : Type 1} → statement M
+better-check-spec = tie.close (tie.spec comparing-number-requires returns)

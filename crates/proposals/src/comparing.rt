@@ -1,0 +1,105 @@
+// Better of two: of two orders proposed for a side, the one that crosses less against the other side's present order.
+ghost use mathlib.Core.Bool.{true};
+ghost use mathlib.Core.Path.{_≡_};
+ghost use Prim.Native.Nat.{_≤_};
+ghost use lib.ListN.{length, take};
+ghost use lib.Seq.{sets};
+ghost use Rattle.record.specs.Meaning.{tableOf};
+ghost use Rattle.proposals.specs.Calls.{BetterChecks, Betters, countWith};
+ghost use Rattle.proposals.specs.Refusals.{comparing, isOrder};
+ghost use Rattle.standing.specs.Sides.{Given, isSide, sideOf};
+use record::refusal::ORDER;
+use record::refusal::Refusal;
+use record::refusal::SIDE;
+use standing::far_places;
+use standing::is_side;
+use standing::rows_at;
+
+// Copies the first n entries of a lent order to an array's first places.
+fn copy_proposed(xs: &[u16], n: u16, out: &mut [u16; 512])
+    requires { ⌜ (n ≤ length (now xs)) × (n ≤ 512) × (length (now out) ≡ 512) ⌝ }
+    ensures { λ _. ⌜ now (out .exit) ≡ sets (now (out .entry)) 0 (take n (now (xs .entry))) ⌝ }
+{
+    let k = n as usize;
+    let mut i = 0;
+    while i < k {
+        out[i] = xs[i];
+        i += 1;
+    }
+}
+
+// Whether the first n entries of a lent order are an order of a side of an accepted record.
+fn is_order(s: &[u8], n: u16, side: u16, xs: &[u16]) -> bool
+    requires { ⌜ Given (now s) n ⌝ }
+    ensures { λ r. ⌜ r ≡ isOrder n (tableOf (now (s .entry)) .tree (sideOf side)) (now (xs .entry)) ⌝ }
+{
+    if xs.len() < n as usize {
+        return false;
+    }
+    let mut order = [0u16; 512];
+    copy_proposed(xs, n, &mut order);
+    let mut tab = [0u16; 1023];
+    record::fill_table(s, rows_at(n, side), n, &mut tab);
+    trees::compatible(&tab, &order)
+}
+
+// The count of an accepted record with a side's order replaced by the first n entries of a lent one.
+fn count_with(s: &[u8], n: u16, side: u16, xs: &[u16]) -> u32
+    requires { ⌜ Given (now s) n ⌝ }
+    requires { ⌜ (isSide side ≡ true) × (isOrder n (tableOf (now s) .tree (sideOf side)) (now xs) ≡ true) ⌝ }
+    ensures { λ r. ⌜ r ≡ countWith (now (s .entry)) (sideOf side) (now (xs .entry)) ⌝ }
+{
+    let mut order = [0u16; 512];
+    copy_proposed(xs, n, &mut order);
+    let mut far = [0u16; 512];
+    far_places(s, n, side, &mut far);
+    crossings::count_seen(&order, &far, n as usize)
+}
+
+// The refusal of comparing two orders, or 0.
+fn comparing_number(s: &[u8], side: u16, first: &[u16], second: &[u16]) -> u16
+    ensures { λ r. ⌜ r ≡ comparing (now (s .entry)) side (now (first .entry)) (now (second .entry)) ⌝ }
+{
+    if !is_side(side) {
+        return SIDE;
+    }
+    let k = record::refusal_number(s);
+    if k != 0 {
+        return k;
+    }
+    let n = record::size_of(s);
+    if !is_order(s, n, side, first) {
+        return ORDER;
+    }
+    if !is_order(s, n, side, second) {
+        return ORDER;
+    }
+    0
+}
+
+// Why better of two answers an empty part: 13, then 1 to 10, then 16 for the first order and for the second; or 0.
+pub fn better_check(s: &[u8], side: u16, first: &[u16], second: &[u16]) -> Refusal
+    ensures { λ r. ⌜ BetterChecks (now (s .entry)) side (now (first .entry)) (now (second .entry)) r ⌝ }
+{
+    Refusal {
+        number: comparing_number(s, side, first, second),
+    }
+}
+
+// The first n entries of the lent order that crosses less, of the first one on a tie; an empty part of the first where
+// anything is refused.
+pub fn better<'a>(s: &[u8], side: u16, first: &'a [u16], second: &'a [u16]) -> &'a [u16]
+    ensures { λ r. ⌜ Betters (now (s .entry)) side (now (first .entry)) (now (second .entry)) (now r) ⌝ }
+{
+    if comparing_number(s, side, first, second) != 0 {
+        return &first[..0];
+    }
+    let n = record::size_of(s);
+    let k = n as usize;
+    let a = count_with(s, n, side, first);
+    let b = count_with(s, n, side, second);
+    if b < a {
+        return &second[..k];
+    }
+    &first[..k]
+}

@@ -1,0 +1,41 @@
+-- `displacement_of`: places and seen places are those of the record's table.
+use mathlib.Core.Path.{refl, _∙_}
+use Rattle.tanglegram.specs.Run.{left}
+use Rattle.standing.proofs.FarEnds.{is-left, order-one}
+use Rattle.standing.proofs.Counts.{displaced-counts, places-good}
+use borrow.Author.Needs.{needs}
+use Rattle.standing.proofs.counting.displacement_of.Statement.{statement}
+use Rattle.standing.proofs.counting.displacement_of.Tie as tie
+
+side-order-requires : tie.Need-side-order-requires
+side-order-requires c κs = search needs
+
+places-requires : tie.Need-places-requires
+places-requires c κs =
+    let v = c .before .before in
+    let g = v .before .before .before .pre in
+    (g .sized .most, g .sized .most, order-one _ _ g left _ _ (v .side-order .ensures))
+
+far-places-requires : tie.Need-far-places-requires
+far-places-requires c κs = (c .before .before .before .before .before .before .before .pre, (is-left, refl))
+
+displaced-requires : tie.Need-displaced-requires
+displaced-requires c κs =
+    let v = c .before .before in
+    let w = v .before .before in
+    let u = w .before .before .before in
+    let g = u .before .before .before .pre in
+    (g .sized .most, places-good _ _ g _ (v .far-places .ensures .0) _ _ (u .side-order .ensures) _ _ (w .places2 .ensures))
+
+returns : tie.Need-returns
+returns c =
+    let v = c .before .before .before in
+    let w = v .before .before in
+    let u = w .before .before .before in
+    let g = u .before .before .before .pre in
+    c .displaced .ensures ∙ displaced-counts _ _ g _ (v .far-places .ensures .0) _ _ (u .side-order .ensures) _ _ (w .places2 .ensures)
+
+pub displacement-of-spec : {M : Type 1} → statement M
+displacement-of-spec =
+    tie.close
+    (tie.spec side-order-requires places-requires far-places-requires displaced-requires returns)

@@ -1,0 +1,26 @@
+// Sides as numbers: 1 is left and 2 is right. Which of them a hold letter holds.
+ghost use mathlib.Core.Path.{_≡_};
+ghost use Rattle.standing.specs.Sides.{holds, isSide, sideOf};
+
+// Whether x is 1 or 2.
+pub fn is_side(x: u16) -> bool
+    ensures { λ r. ⌜ r ≡ isSide x ⌝ }
+{
+    if x == 1 {
+        return true;
+    }
+    x == 2
+}
+
+// Whether the hold holds that side.
+pub fn is_held(hold: u8, side: u16) -> bool
+    ensures { λ r. ⌜ r ≡ holds hold (sideOf side) ⌝ }
+{
+    if hold == b'B' {
+        return true;
+    }
+    if side == 1 {
+        return hold == b'L';
+    }
+    hold == b'R'
+}

@@ -1,0 +1,111 @@
+-- A record with a side freed: what its far places decide, and that it is accepted again.
+use Prim.Native.Nat.{ℕ, _-_, _≤_}
+use mathlib.Core.Path.{_≡_, refl, sym, _∙_}
+use mathlib.Core.Bool.{true}
+use mathlib.Core.List.{List, Permᴰ·symm}
+use borrow.Author.Tests.{leb-true, le-leb}
+use lib.Dec.{leb}
+use lib.ListN.{length}
+use Rattle.tanglegram.specs.Lists.{Each, range}
+use Rattle.tanglegram.specs.Tree.{leaves}
+use Rattle.tanglegram.specs.Crossings.{inverted}
+use Rattle.tanglegram.specs.Run.{Side, left, right}
+use Rattle.tanglegram.specs.Table.{Layouts, layout, seen, free}
+use Rattle.tanglegram.proofs.Lists.{each-map, each-perm}
+use Rattle.tanglegram.specs.Freeing.{freed}
+use Rattle.tanglegram.proofs.Table.{Fair}
+use Rattle.tanglegram.proofs.Freeing.{length-freed, freed-bytes, freed-cong}
+use Rattle.record.specs.Fields.{sizeOf, parts}
+use Rattle.record.specs.Refusals.{isLayout}
+use Rattle.record.specs.Meaning.{tableOf, layoutsOf, relaid}
+use Rattle.record.proofs.Acceptance.{accepted-sized, accepted-parts}
+use Rattle.record.proofs.Meaning.{accepted-fair, accepted-fits, length-left, length-right, relaid-accepted, size-relaid}
+use Rattle.record.proofs.Meaning.{table-relaid, layouts-of-relaid, relaid-again}
+use Rattle.record.proofs.Contents.{GoodParts}
+use Rattle.record.proofs.Tests.{all-each, each-all}
+use Rattle.crossings.specs.Arrays.{at, Holds}
+use Rattle.standing.specs.Sides.{Given, farPlace}
+use Rattle.standing.proofs.AsItStands.{side-leaves}
+use Rattle.standing.proofs.AsItStands.{given-size}
+
+module _ (s : List ℕ) (n : ℕ) (g : Given s n) where
+  says : n ≡ sizeOf s
+  says = sym (g .sized .says)
+
+  -- what a side sees is what its far places say
+  pub freed-held : (side : Side) (far lay : List ℕ) → Holds n far (farPlace s side) →
+      freed (inverted (at far)) (tableOf s .tree side) lay ≡ freed (seen (tableOf s) (layoutsOf s) side) (tableOf s .tree side) lay
+  freed-held side far lay h = go side h
+    where
+      Held : Side → ℕ → Type 0
+      Held x a = at far a ≡ farPlace s x a
+
+      leaves-held : (x : Side) → Each (Held x) (range 1 n) → Each (Held x) (leaves (tableOf s .tree x))
+      leaves-held x p = each-perm (Held x) (Permᴰ·symm (side-leaves s n g x)) p
+
+      go : (x : Side) → Holds n far (farPlace s x) →
+          freed (inverted (at far)) (tableOf s .tree x) lay ≡ freed (seen (tableOf s) (layoutsOf s) x) (tableOf s .tree x) lay
+      go left h =
+          freed-cong (inverted (at far)) (seen (tableOf s) (layoutsOf s) left) (Held left) (tableOf s .tree left) lay
+          (λ a b p q. rw (p, q) refl) (leaves-held left (h .each))
+      go right h =
+          freed-cong (inverted (at far)) (seen (tableOf s) (layoutsOf s) right) (Held right) (tableOf s .tree right) lay
+          (λ a b p q. rw (p, q) refl) (leaves-held right (h .each))
+
+  -- ---- freeing keeps a record accepted
+
+  module _ (side : Side) where
+    pub freed-long : (length (free (tableOf s) side (layoutsOf s) .left-bytes) ≡ sizeOf s - 1) ×
+        (length (free (tableOf s) side (layoutsOf s) .right-bytes) ≡ sizeOf s - 1)
+    freed-long = go side
+      where
+        go : (x : Side) → (length (free (tableOf s) x (layoutsOf s) .left-bytes) ≡ sizeOf s - 1) ×
+            (length (free (tableOf s) x (layoutsOf s) .right-bytes) ≡ sizeOf s - 1)
+        go left = (length-freed _ _ _ ∙ length-left s (g .accepted), length-right s (g .accepted))
+        go right = (length-left s (g .accepted), length-freed _ _ _ ∙ length-right s (g .accepted))
+
+    small : (lay : List ℕ) → isLayout lay ≡ true → Each (λ x. x ≤ 1) lay
+    unfolding isLayout
+    small lay e = each-map lay (λ x h. leb-true x 1 h) (all-each (λ x. leb x 1) lay e)
+
+    is-small : (lay : List ℕ) → Each (λ x. x ≤ 1) lay → isLayout lay ≡ true
+    unfolding isLayout
+    is-small lay e = each-all (λ x. leb x 1) lay (each-map lay (λ x h. le-leb x 1 h) e)
+
+    freed-small : (isLayout (free (tableOf s) side (layoutsOf s) .left-bytes) ≡ true) ×
+        (isLayout (free (tableOf s) side (layoutsOf s) .right-bytes) ≡ true)
+    freed-small = go side
+      where
+        c : GoodParts (parts s)
+        c = accepted-parts s (g .accepted)
+
+        fair : Fair (tableOf s)
+        fair = accepted-fair s (g .accepted)
+
+        bytes-of : (x : Side) → isLayout (layout (layoutsOf s) x) ≡ true →
+            isLayout (freed (seen (tableOf s) (layoutsOf s) x) (tableOf s .tree x) (layout (layoutsOf s) x)) ≡ true
+        bytes-of x e =
+            is-small _ (freed-bytes (seen (tableOf s) (layoutsOf s) x) (tableOf s .tree x) (fair .row-count x) (fair .numbered x)
+            (layout (layoutsOf s) x) (accepted-fits s (g .accepted) x) (small (layout (layoutsOf s) x) e))
+
+        go : (x : Side) → (isLayout (free (tableOf s) x (layoutsOf s) .left-bytes) ≡ true) ×
+            (isLayout (free (tableOf s) x (layoutsOf s) .right-bytes) ≡ true)
+        go left = (bytes-of left (c .left-bytes), c .right-bytes)
+        go right = (c .left-bytes, bytes-of right (c .right-bytes))
+
+    pub freed-given : Given (relaid s (free (tableOf s) side (layoutsOf s))) n
+    freed-given =
+        let z = accepted-sized s (g .accepted) in
+        let new = free (tableOf s) side (layoutsOf s) in
+        let a = relaid-accepted s z new (freed-long .0) (freed-long .1) (g .accepted) (freed-small .0) (freed-small .1) in
+        given-size (relaid s new) a (says ∙ sym (size-relaid s z new (freed-long .0) (freed-long .1)))
+
+    -- it shows the same table with the freed layouts
+    pub freed-table : tableOf (relaid s (free (tableOf s) side (layoutsOf s))) ≡ tableOf s
+    freed-table = table-relaid s (accepted-sized s (g .accepted)) (free (tableOf s) side (layoutsOf s)) (freed-long .0) (freed-long .1)
+
+    pub freed-layouts : layoutsOf (relaid s (free (tableOf s) side (layoutsOf s))) ≡ free (tableOf s) side (layoutsOf s)
+    freed-layouts = layouts-of-relaid s (accepted-sized s (g .accepted)) (free (tableOf s) side (layoutsOf s)) (freed-long .0) (freed-long .1)
+
+    pub freed-again : (newer : Layouts) → relaid (relaid s (free (tableOf s) side (layoutsOf s))) newer ≡ relaid s newer
+    freed-again = relaid-again s (accepted-sized s (g .accepted)) (free (tableOf s) side (layoutsOf s)) (freed-long .0) (freed-long .1)

@@ -1,6 +1,0 @@
--- A lent entry of a hand list, and the hand that it is.
-use Rattle.table.specs.declared.hand_entries.HandEntry.{HandEntry}
-use Rattle.table.specs.Refusals.{Hand, hand}
-
-abbrev pub handIn : HandEntry → Hand
-handIn e = hand (e .side) (e .row)
