@@ -1,0 +1,275 @@
+// Packing and unpacking: a record's parts as words. Each function takes one or two words apart and hands what they say to
+// the next; the last one makes the call.
+use crate::answering::next_bytes;
+use crate::answering::next_list;
+use crate::answering::no_call;
+use crate::parsing::bytes;
+use crate::parsing::list as list_in;
+use crate::parsing::number;
+use crate::words::part;
+use crate::words::part_bytes;
+use crate::words::word;
+use record::unpacking::Unpacked;
+
+// pack HOLD N LEFT RIGHT LINKS LAYOUT LAYOUT OUT -> NUMBER OUT
+pub fn pack(
+    line: &[u8],
+    s: &mut [u8],
+    xs: &mut [u16],
+    layouts: &mut [u8],
+    out: &mut [u8],
+    at: usize,
+) -> usize {
+    let m = bytes(word(line, 8), s, 0);
+    if s.len() < m {
+        return no_call(out, at);
+    }
+    pack_lists(line, &mut s[..m], xs, layouts, out, at)
+}
+
+// Where three lists end that stand one behind the other.
+struct Ends {
+    left: usize,
+    right: usize,
+    links: usize,
+}
+
+fn lists_in(line: &[u8], xs: &mut [u16]) -> Ends {
+    let left = list_in(word(line, 3), xs, 0);
+    let right = list_in(word(line, 4), xs, left);
+    let links = list_in(word(line, 5), xs, right);
+    Ends {
+        left: left,
+        right: right,
+        links: links,
+    }
+}
+
+fn pack_lists(
+    line: &[u8],
+    s: &mut [u8],
+    xs: &mut [u16],
+    layouts: &mut [u8],
+    out: &mut [u8],
+    at: usize,
+) -> usize {
+    let ends = lists_in(line, xs);
+    let a = ends.left;
+    let b = ends.right;
+    let c = ends.links;
+    if xs.len() < c {
+        return no_call(out, at);
+    }
+    pack_layouts(
+        line,
+        s,
+        part(xs, 0, a),
+        part(xs, a, b),
+        part(xs, b, c),
+        layouts,
+        out,
+        at,
+    )
+}
+
+fn pack_layouts(
+    line: &[u8],
+    s: &mut [u8],
+    left: &[u16],
+    right: &[u16],
+    links: &[u16],
+    layouts: &mut [u8],
+    out: &mut [u8],
+    at: usize,
+) -> usize {
+    let d = bytes(word(line, 6), layouts, 0);
+    let e = bytes(word(line, 7), layouts, d);
+    if layouts.len() < e {
+        return no_call(out, at);
+    }
+    pack_all(
+        line,
+        s,
+        left,
+        right,
+        links,
+        part_bytes(layouts, 0, d),
+        part_bytes(layouts, d, e),
+        out,
+        at,
+    )
+}
+
+fn pack_all(
+    line: &[u8],
+    s: &mut [u8],
+    left: &[u16],
+    right: &[u16],
+    links: &[u16],
+    leftlayout: &[u8],
+    rightlayout: &[u8],
+    out: &mut [u8],
+    at: usize,
+) -> usize {
+    let hold = number(word(line, 1), 255);
+    if 255 < hold {
+        return no_call(out, at);
+    }
+    let n = number(word(line, 2), 65535);
+    if 65535 < n {
+        return no_call(out, at);
+    }
+    let done = record::pack(
+        hold as u8,
+        n as u16,
+        left,
+        right,
+        links,
+        leftlayout,
+        rightlayout,
+        s,
+    );
+    let i = printing::entry(out, at, done.number);
+    let k = next_bytes(out, i, s);
+    printing::end(out, k)
+}
+
+// NUMBER HOLD N
+fn heading(out: &mut [u8], at: usize, answer: Unpacked) -> usize {
+    let refusal = answer.refusal;
+    let i = printing::entry(out, at, refusal.number);
+    let j = printing::next(out, i, answer.hold as u32);
+    printing::next_entry(out, j, answer.n)
+}
+
+// unpack RECORD LEFT RIGHT LINKS LAYOUT LAYOUT -> NUMBER HOLD N LEFT RIGHT LINKS LAYOUT LAYOUT
+pub fn unpack(
+    line: &[u8],
+    s: &mut [u8],
+    xs: &mut [u16],
+    layouts: &mut [u8],
+    out: &mut [u8],
+    at: usize,
+) -> usize {
+    let m = bytes(word(line, 1), s, 0);
+    if s.len() < m {
+        return no_call(out, at);
+    }
+    unpack_left(line, &s[..m], xs, layouts, out, at)
+}
+
+fn unpack_left(
+    line: &[u8],
+    s: &[u8],
+    xs: &mut [u16],
+    layouts: &mut [u8],
+    out: &mut [u8],
+    at: usize,
+) -> usize {
+    let n = list_in(word(line, 2), xs, 0);
+    if xs.len() < n {
+        return no_call(out, at);
+    }
+    unpack_right(line, s, &mut xs[..n], layouts, out, at)
+}
+
+fn unpack_right(
+    line: &[u8],
+    s: &[u8],
+    left: &mut [u16],
+    layouts: &mut [u8],
+    out: &mut [u8],
+    at: usize,
+) -> usize {
+    let mut xs = [0u16; 524288];
+    let n = list_in(word(line, 3), &mut xs, 0);
+    if 524288 < n {
+        return no_call(out, at);
+    }
+    unpack_links(line, s, left, &mut xs[..n], layouts, out, at)
+}
+
+fn unpack_links(
+    line: &[u8],
+    s: &[u8],
+    left: &mut [u16],
+    right: &mut [u16],
+    layouts: &mut [u8],
+    out: &mut [u8],
+    at: usize,
+) -> usize {
+    let mut xs = [0u16; 524288];
+    let n = list_in(word(line, 4), &mut xs, 0);
+    if 524288 < n {
+        return no_call(out, at);
+    }
+    unpack_left_layout(line, s, left, right, &mut xs[..n], layouts, out, at)
+}
+
+fn unpack_left_layout(
+    line: &[u8],
+    s: &[u8],
+    left: &mut [u16],
+    right: &mut [u16],
+    links: &mut [u16],
+    layouts: &mut [u8],
+    out: &mut [u8],
+    at: usize,
+) -> usize {
+    let n = bytes(word(line, 5), layouts, 0);
+    if layouts.len() < n {
+        return no_call(out, at);
+    }
+    unpack_right_layout(line, s, left, right, links, &mut layouts[..n], out, at)
+}
+
+fn unpack_right_layout(
+    line: &[u8],
+    s: &[u8],
+    left: &mut [u16],
+    right: &mut [u16],
+    links: &mut [u16],
+    leftlayout: &mut [u8],
+    out: &mut [u8],
+    at: usize,
+) -> usize {
+    let mut layout = [0u8; 524288];
+    let n = bytes(word(line, 6), &mut layout, 0);
+    if 524288 < n {
+        return no_call(out, at);
+    }
+    unpack_all(s, left, right, links, leftlayout, &mut layout[..n], out, at)
+}
+
+fn unpack_all(
+    s: &[u8],
+    left: &mut [u16],
+    right: &mut [u16],
+    links: &mut [u16],
+    leftlayout: &mut [u8],
+    rightlayout: &mut [u8],
+    out: &mut [u8],
+    at: usize,
+) -> usize {
+    let answer = record::unpack(s, left, right, links, leftlayout, rightlayout);
+    unpacked(answer, left, right, links, leftlayout, rightlayout, out, at)
+}
+
+fn unpacked(
+    answer: Unpacked,
+    left: &[u16],
+    right: &[u16],
+    links: &[u16],
+    leftlayout: &[u8],
+    rightlayout: &[u8],
+    out: &mut [u8],
+    at: usize,
+) -> usize {
+    let f = heading(out, at, answer);
+    let g = next_list(out, f, left);
+    let h = next_list(out, g, right);
+    let i = next_list(out, h, links);
+    let j = next_bytes(out, i, leftlayout);
+    let k = next_bytes(out, j, rightlayout);
+    printing::end(out, k)
+}
