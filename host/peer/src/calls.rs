@@ -4,6 +4,7 @@
 
 use std::io::{self, Write};
 
+use crate::crossings;
 use crate::edges;
 use crate::faults;
 use crate::lines;
@@ -37,13 +38,13 @@ fn any_line(random: &mut Random) -> Vec<u8> {
 
 fn any_size(random: &mut Random) -> usize {
     match random.below(1000) {
-        0..=17 => 512,
-        18 => 511,
-        19..=20 => 200 + random.below(311),
-        21..=28 => 25 + random.below(175),
-        29..=120 => 13 + random.below(12),
-        121..=170 => 1,
-        171..=220 => 2,
+        0..=18 => 512,
+        19 => 511,
+        20..=21 => 200 + random.below(311),
+        22..=29 => 25 + random.below(175),
+        30..=99 => 13 + random.below(12),
+        100..=149 => 1,
+        150..=199 => 2,
         _ => 3 + random.below(10),
     }
 }
@@ -192,10 +193,31 @@ fn any_order(made: &Made, side: u16, random: &mut Random) -> Vec<u16> {
     order
 }
 
+/// Two compatible orders which cross equally often, if a few attempts find such.
+fn tied_orders(made: &Made, side: u16, random: &mut Random) -> (Vec<u16>, Vec<u16>) {
+    let n = made.n as usize;
+    let stands = made.present_order(3 - side);
+    let crossing = |order: &[u16]| {
+        let (left, right) = if side == 1 { (order, &stands[..]) } else { (&stands[..], order) };
+        crossings::pair_by_pair(&crossings::link_places(left, right, &made.links))
+    };
+    let first = made.order_of(side, &made::any_layout(n, random));
+    let mut second = first.clone();
+    for _ in 0..8 {
+        let order = made.order_of(side, &made::any_layout(n, random));
+        if order != first && crossing(&order) == crossing(&first) {
+            second = order;
+        }
+    }
+    (first, second)
+}
+
 fn any_better(word: &str, made: &Made, record: &[u8], random: &mut Random) -> String {
     let side = 1 + random.below(2) as u16;
-    let first = any_order(made, side, random);
-    let second = if random.chance(100) { first.clone() } else { any_order(made, side, random) };
+    let (first, second) = match random.below(10) {
+        0..=2 => tied_orders(made, side, random),
+        _ => (any_order(made, side, random), any_order(made, side, random)),
+    };
     let named = if random.chance(930) { side.to_string() } else { any_side(random) };
     lines::better(word, record, named, &first, &second)
 }

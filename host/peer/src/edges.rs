@@ -220,28 +220,31 @@ fn long_hand_lists() -> Vec<String> {
     calls
 }
 
+/// Orders for the left of case 2; the second and third cross equally often.
+const PROPOSED: [&[u16]; 15] = [
+    &[4, 3, 1, 2],
+    &[3, 2, 1, 4],
+    &[4, 1, 2, 3],
+    &[1, 2, 3, 4],
+    &[2, 1, 3, 4],
+    &[3, 1, 2, 4, 0, 65535, 4],
+    &[4, 3, 2, 1, 9],
+    &[1, 3, 2, 4],
+    &[1, 2, 3],
+    &[],
+    &[1, 2, 3, 3],
+    &[0, 1, 2, 3],
+    &[1, 2, 3, 5],
+    &[257, 2, 3, 4],
+    &[1, 2, 3, 65535, 4],
+];
+
 /// Proposed orders: compatible, ties, short, longer, with entries that are no leaves.
 fn proposed_orders() -> Vec<String> {
-    let orders: [&[u16]; 14] = [
-        &[4, 3, 1, 2],
-        &[1, 2, 3, 4],
-        &[2, 1, 3, 4],
-        &[3, 1, 2, 4, 0, 65535, 4],
-        &[4, 3, 2, 1, 9],
-        &[1, 3, 2, 4],
-        &[4, 1, 3, 2],
-        &[1, 2, 3],
-        &[],
-        &[1, 2, 3, 3],
-        &[0, 1, 2, 3],
-        &[1, 2, 3, 5],
-        &[257, 2, 3, 4],
-        &[1, 2, 3, 65535, 4],
-    ];
     let mut calls = Vec::new();
     let record = case_2().bytes();
-    for first in orders {
-        for second in orders {
+    for first in PROPOSED {
+        for second in PROPOSED {
             for word in ["better", "better_check"] {
                 calls.push(lines::better(word, &record, 1, first, second));
             }
@@ -415,7 +418,8 @@ fn sizes() -> Vec<String> {
     for n in [1, 2, 3, 511] {
         let made = with_hold(any_record(n, &mut random), b'N');
         let mut bytes = made.bytes();
-        calls.extend(calls_on(&made, &bytes));
+        let on_it = calls_on(&made, &bytes).into_iter();
+        calls.extend(on_it.step_by(if n == 511 { 4 } else { 1 }));
         bytes.push(0);
         calls.push(lines::plain("check", &bytes));
         calls.push(lines::plain("check", &bytes[..bytes.len() - 2]));
