@@ -1,0 +1,172 @@
+// The paper's bench examples 1 to 13, with the numbers typed from the paper.
+// Used by `cargo test` only.
+
+use crate::crossings;
+use crate::made::{case_2, example, Made};
+use crate::record::{self, Side};
+use crate::table::{self, Entanglement, Run};
+
+const MOST_TURNS: u32 = 130_818;
+
+fn example_5() -> Made {
+    example(&[1, 2, 4, 3], &[1, 3, 4, 2])
+}
+
+fn order(bytes: &[u8], side: u16, n: usize) -> Vec<u16> {
+    let mut out = vec![0; n];
+    table::order(bytes, side, &mut out).unwrap();
+    out
+}
+
+fn count(bytes: &[u8]) -> u32 {
+    let count = table::count(bytes).unwrap();
+    assert_eq!(table::pairs(bytes).unwrap(), count);
+    count
+}
+
+fn run(bytes: &mut [u8], allowance: u32) -> (u32, u32, u32, bool) {
+    let Run { first, last, turns, settled } = table::run(bytes, allowance).unwrap();
+    (first, last, turns, settled)
+}
+
+/// Example 13's record: left order 1 to 512, links backwards to right order 1 to 512.
+fn backwards() -> Made {
+    let mut rows = vec![1, 2];
+    for i in 2..512 {
+        rows.extend([511 + i, i + 1]);
+    }
+    let mut record = example(&rows, &rows);
+    record.links.reverse();
+    record
+}
+
+#[test]
+fn example_1() {
+    assert_eq!(order(&case_2().bytes(), 1, 4), [4, 3, 1, 2]);
+}
+
+#[test]
+fn example_2() {
+    let bytes = case_2().bytes();
+    assert_eq!(count(&bytes), 5);
+    let own = crossings::own_crossings(&record::read(&bytes).unwrap(), Side::Left);
+    assert_eq!(own.iter().map(|row| row.0).collect::<Vec<_>>(), [0, 2, 3]);
+}
+
+#[test]
+fn example_3() {
+    let mut bytes = case_2().bytes();
+    assert_eq!(table::free(&mut bytes, 1), Ok((5, 0)));
+    let record = record::read(&bytes).unwrap();
+    assert_eq!(record.layout(Side::Left), [0, 1, 1]);
+    assert_eq!(order(&bytes, 1, 4), [1, 2, 3, 4]);
+    assert_eq!(count(&bytes), 0);
+    assert_eq!(run(&mut case_2().bytes(), MOST_TURNS), (5, 0, 2, true));
+}
+
+#[test]
+fn example_4() {
+    let measure = table::entanglement(&case_2().bytes()).unwrap();
+    assert_eq!(measure, Entanglement { d: 18, w: 20, ratio: Some(18.0 / 20.0) });
+}
+
+#[test]
+fn example_5_ties() {
+    let before = example_5().bytes();
+    assert_eq!(count(&before), 1);
+    let record = record::read(&before).unwrap();
+    for side in [Side::Left, Side::Right] {
+        let (own, upper, lower) = *crossings::own_crossings(&record, side).last().unwrap();
+        assert_eq!(2 * own, upper * lower);
+    }
+    let mut after = before.clone();
+    assert_eq!(run(&mut after, MOST_TURNS), (1, 1, 2, true));
+    assert_eq!(after, before);
+    let mut turned = example_5();
+    turned.left_layout = vec![1, 0];
+    turned.right_layout = vec![0, 1];
+    assert_eq!(order(&turned.bytes(), 1, 3), [2, 1, 3]);
+    assert_eq!(order(&turned.bytes(), 2, 3), [2, 1, 3]);
+    assert_eq!(count(&turned.bytes()), 0);
+}
+
+#[test]
+fn example_6() {
+    let before = example(&[1, 2, 4, 3], &[3, 2, 1, 4]).bytes();
+    let mut bytes = before.clone();
+    assert_eq!(table::free(&mut bytes, 1), Ok((1, 1)));
+    assert_eq!(table::free(&mut bytes, 2), Ok((1, 0)));
+    assert_eq!(run(&mut before.clone(), MOST_TURNS), (1, 0, 3, true));
+    assert_eq!(run(&mut before.clone(), 3), (1, 0, 3, true));
+    assert_eq!(run(&mut before.clone(), 2), (1, 0, 2, false));
+}
+
+#[test]
+fn example_7() {
+    let mut bytes = example(&[], &[]).bytes();
+    assert_eq!(bytes.len(), 10);
+    assert_eq!(count(&bytes), 0);
+    assert_eq!(table::entanglement(&bytes).unwrap(), Entanglement { d: 0, w: 0, ratio: None });
+    assert_eq!(run(&mut bytes, 2), (0, 0, 2, true));
+    assert_eq!(run(&mut bytes, 1), (0, 0, 1, false));
+}
+
+#[test]
+fn example_8() {
+    let mut record = example(&[1, 2], &[1, 2]);
+    record.links = vec![2, 1];
+    let mut bytes = record.bytes();
+    assert_eq!(count(&bytes), 1);
+    assert_eq!(table::free(&mut bytes, 1), Ok((1, 0)));
+    assert_eq!(record::read(&bytes).unwrap().layout(Side::Left), [1]);
+}
+
+#[test]
+fn example_9() {
+    let good = [1, 2, 4, 3];
+    for bad in [[1, 2, 1, 3], [1, 5, 2, 3]] {
+        assert_eq!(table::check(&example(&bad, &good).bytes()), 7);
+        assert_eq!(table::check(&example(&good, &bad).bytes()), 8);
+    }
+}
+
+#[test]
+fn example_10() {
+    let measure = table::entanglement(&example_5().bytes()).unwrap();
+    assert_eq!((measure.d, measure.w), (2, 8));
+}
+
+#[test]
+fn example_11() {
+    let mut record = case_2();
+    record.hold = b'L';
+    assert_eq!(table::free(&mut record.bytes(), 1), Err(11));
+    assert!(table::free(&mut record.bytes(), 2).is_ok());
+    assert_eq!(table::run(&mut record.bytes(), MOST_TURNS), Err(11));
+}
+
+#[test]
+fn example_12() {
+    let most = backwards();
+    assert_eq!(most.bytes().len(), 6_142);
+    assert_eq!(table::check(&most.bytes()), 0);
+    let mut more = most.clone();
+    more.n = 513;
+    assert_eq!(table::check(&more.bytes()), 5);
+    assert!(table::run(&mut case_2().bytes(), 130_818).is_ok());
+    assert_eq!(table::run(&mut case_2().bytes(), 130_819), Err(12));
+}
+
+#[test]
+fn example_13() {
+    assert_eq!(count(&backwards().bytes()), 130_816);
+    let measure = table::entanglement(&backwards().bytes()).unwrap();
+    assert_eq!(measure, Entanglement { d: 44_739_072, w: 44_739_072, ratio: Some(1.0) });
+}
+
+#[test]
+fn a_zeroed_record_is_refused_2() {
+    for length in 0..60 {
+        assert_eq!(table::check(&vec![0; length]), if length < 8 { 1 } else { 2 });
+    }
+}

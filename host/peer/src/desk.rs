@@ -1,0 +1,305 @@
+// The language of `desk`: one line is one call, and each line is answered with one line.
+// A line is taken apart whole before anything is tested; one that is no call is answered `?`.
+// At most 1,048,576 bytes are read, and a line that does not end within them gets no answer.
+
+use crate::record::{self, Buffers, Parts};
+use crate::table;
+
+pub const MOST_BYTES: usize = 1_048_576;
+
+#[derive(Debug, PartialEq)]
+pub enum Call {
+    Check(Vec<u8>),
+    Order(Vec<u8>, u16, Vec<u16>),
+    Count(Vec<u8>),
+    Pairs(Vec<u8>),
+    Entanglement(Vec<u8>),
+    Free(Vec<u8>, u16),
+    Run(Vec<u8>, u32),
+    Hands(Vec<u8>, Vec<(u16, u16)>),
+    Better(Vec<u8>, u16, Vec<u16>, Vec<u16>),
+    BetterCheck(Vec<u8>, u16, Vec<u16>, Vec<u16>),
+    Hold(Vec<u8>, u8),
+    Pack(u8, u16, [Vec<u16>; 3], [Vec<u8>; 2], Vec<u8>),
+    Unpack(Vec<u8>, [Vec<u16>; 3], [Vec<u8>; 2]),
+}
+
+/// One or more digits making a number that is not above the most; nothing wraps.
+fn number(word: &[u8], most: u64) -> Option<u64> {
+    if word.is_empty() {
+        return None;
+    }
+    let mut value: u64 = 0;
+    for &digit in word {
+        if !digit.is_ascii_digit() {
+            return None;
+        }
+        value = value * 10 + (digit - b'0') as u64;
+        if value > most {
+            return None;
+        }
+    }
+    Some(value)
+}
+
+fn short(word: &[u8]) -> Option<u16> {
+    number(word, u16::MAX as u64).map(|value| value as u16)
+}
+
+fn allowance(word: &[u8]) -> Option<u32> {
+    number(word, u32::MAX as u64).map(|value| value as u32)
+}
+
+fn letter(word: &[u8]) -> Option<u8> {
+    number(word, u8::MAX as u64).map(|value| value as u8)
+}
+
+/// Numbers separated by commas, or `-`.
+fn list(word: &[u8]) -> Option<Vec<u16>> {
+    if word == b"-" {
+        return Some(Vec::new());
+    }
+    word.split(|&byte| byte == b',').map(short).collect()
+}
+
+/// `side:row` pairs separated by commas, or `-`.
+fn hands(word: &[u8]) -> Option<Vec<(u16, u16)>> {
+    if word == b"-" {
+        return Some(Vec::new());
+    }
+    let entry = |entry: &[u8]| {
+        let colon = entry.iter().position(|&byte| byte == b':')?;
+        Some((short(&entry[..colon])?, short(&entry[colon + 1..])?))
+    };
+    word.split(|&byte| byte == b',').map(entry).collect()
+}
+
+/// Two hexadecimal digits for each byte, or `-`.
+fn bytes(word: &[u8]) -> Option<Vec<u8>> {
+    if word == b"-" {
+        return Some(Vec::new());
+    }
+    if word.is_empty() || word.len() % 2 != 0 {
+        return None;
+    }
+    word.chunks(2).map(|two| Some(digit(two[0])? * 16 + digit(two[1])?)).collect()
+}
+
+fn digit(byte: u8) -> Option<u8> {
+    match byte {
+        b'0'..=b'9' => Some(byte - b'0'),
+        b'a'..=b'f' => Some(byte - b'a' + 10),
+        _ => None,
+    }
+}
+
+/// The call that a line without its line feed makes, if it makes one.
+pub fn call(line: &[u8]) -> Option<Call> {
+    let words: Vec<&[u8]> = line.split(|&byte| byte == b' ').collect();
+    let (&word, arguments) = words.split_first()?;
+    Some(match (word, arguments) {
+        (b"check", &[a]) => Call::Check(bytes(a)?),
+        (b"order", &[a, s, o]) => Call::Order(bytes(a)?, short(s)?, list(o)?),
+        (b"count", &[a]) => Call::Count(bytes(a)?),
+        (b"pairs", &[a]) => Call::Pairs(bytes(a)?),
+        (b"entanglement", &[a]) => Call::Entanglement(bytes(a)?),
+        (b"free", &[a, s]) => Call::Free(bytes(a)?, short(s)?),
+        (b"run", &[a, t]) => Call::Run(bytes(a)?, allowance(t)?),
+        (b"hands", &[a, h]) => Call::Hands(bytes(a)?, hands(h)?),
+        (b"better", &[a, s, x, y]) => Call::Better(bytes(a)?, short(s)?, list(x)?, list(y)?),
+        (b"better_check", &[a, s, x, y]) => Call::BetterCheck(bytes(a)?, short(s)?, list(x)?, list(y)?),
+        (b"hold", &[a, h]) => Call::Hold(bytes(a)?, letter(h)?),
+        (b"pack", &[h, n, l, r, p, x, y, o]) => {
+            let numbers = [list(l)?, list(r)?, list(p)?];
+            Call::Pack(letter(h)?, short(n)?, numbers, [bytes(x)?, bytes(y)?], bytes(o)?)
+        }
+        (b"unpack", &[a, l, r, p, x, y]) => {
+            Call::Unpack(bytes(a)?, [list(l)?, list(r)?, list(p)?], [bytes(x)?, bytes(y)?])
+        }
+        _ => return None,
+    })
+}
+
+/// Bytes as they are written: hexadecimal digits, or `-`.
+pub fn hex(bytes: &[u8]) -> String {
+    if bytes.is_empty() {
+        return "-".to_string();
+    }
+    bytes.iter().map(|byte| format!("{byte:02x}")).collect()
+}
+
+/// A list as it is written: decimal numbers separated by commas, or `-`.
+pub fn commas(list: &[u16]) -> String {
+    if list.is_empty() {
+        return "-".to_string();
+    }
+    list.iter().map(|number| number.to_string()).collect::<Vec<_>>().join(",")
+}
+
+/// The refusal, or 0.
+fn refusal<T>(result: &Result<T, u16>) -> u16 {
+    *result.as_ref().err().unwrap_or(&0)
+}
+
+fn count_answer(result: Result<u32, u16>) -> String {
+    format!("{} {}", refusal(&result), result.unwrap_or(0))
+}
+
+fn order_answer(record: &[u8], side: u16, mut out: Vec<u16>) -> String {
+    let result = table::order(record, side, &mut out);
+    format!("{} {}", refusal(&result), commas(&out))
+}
+
+fn entanglement_answer(record: &[u8]) -> String {
+    match table::entanglement(record) {
+        Err(number) => format!("{number} 0 0 none"),
+        Ok(measure) => {
+            let ratio = measure.ratio.map(|ratio| format!("{:016x}", ratio.to_bits()));
+            format!("0 {} {} {}", measure.d, measure.w, ratio.unwrap_or("none".to_string()))
+        }
+    }
+}
+
+fn free_answer(mut record: Vec<u8>, side: u16) -> String {
+    let result = table::free(&mut record, side);
+    let (before, after) = result.unwrap_or((0, 0));
+    format!("{} {before} {after} {}", refusal(&result), hex(&record))
+}
+
+fn run_answer(mut record: Vec<u8>, allowance: u32) -> String {
+    match table::run(&mut record, allowance) {
+        Err(number) => format!("{number} 0 0 0 0 {}", hex(&record)),
+        Ok(run) => {
+            let settled = run.settled as u8;
+            format!("0 {} {} {} {settled} {}", run.first, run.last, run.turns, hex(&record))
+        }
+    }
+}
+
+fn hands_answer(mut record: Vec<u8>, entries: &[(u16, u16)]) -> String {
+    let result = table::hands(&mut record, entries);
+    format!("{} {}", refusal(&result), hex(&record))
+}
+
+fn hold_answer(mut record: Vec<u8>, letter: u8) -> String {
+    let number = record::set_hold(&mut record, letter);
+    format!("{number} {}", hex(&record))
+}
+
+fn pack_answer(hold: u8, n: u16, numbers: [Vec<u16>; 3], layouts: [Vec<u8>; 2], mut out: Vec<u8>) -> String {
+    let parts = Parts {
+        left: &numbers[0],
+        right: &numbers[1],
+        links: &numbers[2],
+        left_layout: &layouts[0],
+        right_layout: &layouts[1],
+    };
+    let number = record::pack(hold, n, &parts, &mut out);
+    format!("{number} {}", hex(&out))
+}
+
+fn unpack_answer(record: &[u8], numbers: [Vec<u16>; 3], layouts: [Vec<u8>; 2]) -> String {
+    let [left, right, links] = numbers;
+    let [left_layout, right_layout] = layouts;
+    let mut buffers = Buffers { left, right, links, left_layout, right_layout };
+    let result = record::unpack(record, &mut buffers);
+    let (hold, n) = result.unwrap_or((0, 0));
+    let lists = [&buffers.left, &buffers.right, &buffers.links].map(|list| commas(list)).join(" ");
+    let layouts = [&buffers.left_layout, &buffers.right_layout].map(|bytes| hex(bytes)).join(" ");
+    format!("{} {hold} {n} {lists} {layouts}", refusal(&result))
+}
+
+/// The answer to a line without its line feed.
+pub fn answer(line: &[u8]) -> String {
+    let Some(call) = call(line) else {
+        return "?".to_string();
+    };
+    match call {
+        Call::Check(record) => table::check(&record).to_string(),
+        Call::Order(record, side, out) => order_answer(&record, side, out),
+        Call::Count(record) => count_answer(table::count(&record)),
+        Call::Pairs(record) => count_answer(table::pairs(&record)),
+        Call::Entanglement(record) => entanglement_answer(&record),
+        Call::Free(record, side) => free_answer(record, side),
+        Call::Run(record, allowance) => run_answer(record, allowance),
+        Call::Hands(record, entries) => hands_answer(record, &entries),
+        Call::Better(record, side, x, y) => commas(table::better(&record, side, &x, &y)),
+        Call::BetterCheck(record, side, x, y) => table::better_check(&record, side, &x, &y).to_string(),
+        Call::Hold(record, letter) => hold_answer(record, letter),
+        Call::Pack(hold, n, numbers, layouts, out) => pack_answer(hold, n, numbers, layouts, out),
+        Call::Unpack(record, numbers, layouts) => unpack_answer(&record, numbers, layouts),
+    }
+}
+
+/// The lines of what was read. A last line without a line feed is one, unless the reading
+/// stopped at the most bytes: then it did not end within them.
+pub fn lines(input: &[u8]) -> Vec<&[u8]> {
+    let mut lines: Vec<&[u8]> = input.split(|&byte| byte == b'\n').collect();
+    let rest = lines.pop().unwrap_or_default();
+    if !rest.is_empty() && input.len() < MOST_BYTES {
+        lines.push(rest);
+    }
+    lines
+}
+
+#[cfg(test)]
+mod tests {
+    use super::*;
+
+    #[test]
+    fn numbers_of_any_number_of_digits() {
+        assert_eq!(short(b"65535"), Some(65535));
+        assert_eq!(short(b"00000000000000000000000000000000065535"), Some(65535));
+        for word in ["65536", "18446744073709551617", "99999999999999999999999999999999", "", "-", "+1", "1 "] {
+            assert_eq!(short(word.as_bytes()), None);
+        }
+        assert_eq!(allowance(b"4294967295"), Some(u32::MAX));
+        assert_eq!(allowance(b"4294967296"), None);
+        assert_eq!(letter(b"255"), Some(255));
+        assert_eq!(letter(b"256"), None);
+    }
+
+    #[test]
+    fn lists_and_bytes() {
+        assert_eq!(list(b"-"), Some(vec![]));
+        assert_eq!(list(b"0,07,65535"), Some(vec![0, 7, 65535]));
+        for word in ["", ",", "1,", ",1", "1,,2", "1,-", "--", "1;2"] {
+            assert_eq!(list(word.as_bytes()), None);
+        }
+        assert_eq!(hands(b"1:2,257:0"), Some(vec![(1, 2), (257, 0)]));
+        for word in ["", "1", "1:", ":1", "1:2:3", "1:2,", "1:2,,1:2", ":", "1:65536"] {
+            assert_eq!(hands(word.as_bytes()), None);
+        }
+        assert_eq!(bytes(b"00ff"), Some(vec![0, 255]));
+        for word in ["", "0", "000", "0F", "0g", "-0", "--"] {
+            assert_eq!(bytes(word.as_bytes()), None);
+        }
+    }
+
+    #[test]
+    fn lines_that_are_no_calls() {
+        assert_eq!(answer(b"check -"), "1");
+        for line in ["", " ", "check", "check ", " check -", "check  -", "check - ", "check -\r", "check\t-"] {
+            assert_eq!(answer(line.as_bytes()), "?");
+        }
+        for line in ["Check -", "checks -", "check - -", "free - 65536", "run - 4294967296", "hold - 256"] {
+            assert_eq!(answer(line.as_bytes()), "?");
+        }
+        assert_eq!(answer(b"free - 65535"), "13 0 0 -");
+        assert_eq!(answer(b"entanglement -"), "1 0 0 none");
+    }
+
+    #[test]
+    fn the_last_line_and_the_most_bytes() {
+        assert_eq!(lines(b"").len(), 0);
+        assert_eq!(lines(b"\n"), [b""]);
+        assert_eq!(lines(b"a\n\nb"), [b"a".as_slice(), b"", b"b"]);
+        let mut input = vec![b'x'; MOST_BYTES];
+        assert_eq!(lines(&input).len(), 0);
+        input[10] = b'\n';
+        assert_eq!(lines(&input), [[b'x'; 10]]);
+        assert_eq!(lines(&input[1..]).len(), 2);
+        input[MOST_BYTES - 1] = b'\n';
+        assert_eq!(lines(&input).len(), 2);
+    }
+}

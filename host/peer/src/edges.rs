@@ -1,0 +1,510 @@
+// The fixed calls that stand at the head of every stream: the paper's examples, both sides of
+// every limit, every refusal of every call, and several faults at once so that the order of the
+// tests shows. They are the same for every seed.
+
+use crate::desk::hex;
+use crate::faults;
+use crate::lines;
+use crate::made::{any_record, case_2, example, of_shape, Made};
+use crate::malformed;
+use crate::random::Random;
+
+const SIDES: [u16; 10] = [0, 1, 2, 3, 256, 257, 258, 512, 32769, 65535];
+#[rustfmt::skip]
+const ALLOWANCES: [u64; 17] = [
+    0, 1, 2, 3, 4, 65_536, 65_537, 130_817, 130_818, 130_819, 131_072, 196_354, 1 << 31,
+    4_294_967_295, 4_294_967_296, 4_294_967_297, 4_295_098_114,
+];
+const HOLDS: [u8; 4] = [b'N', b'L', b'R', b'B'];
+
+/// All fixed lines.
+pub fn all() -> Vec<String> {
+    let mut all = examples();
+    all.extend(turns_and_sides());
+    all.extend(buffers());
+    all.extend(hand_lists());
+    all.extend(long_hand_lists());
+    all.extend(proposed_orders());
+    all.extend(holds());
+    all.extend(packing());
+    all.extend(packing_several_faults());
+    all.extend(unpacking());
+    all.extend(sizes());
+    all.extend(bad_records());
+    all.extend(bad_records_and_arguments());
+    all.extend(zeros_in_front());
+    all.extend(malformed::fixed(&hex(&case_2().bytes())));
+    all
+}
+
+fn with_links(mut made: Made, links: &[u16]) -> Made {
+    made.links = links.to_vec();
+    made
+}
+
+fn with_hold(mut made: Made, hold: u8) -> Made {
+    made.hold = hold;
+    made
+}
+
+fn example_5() -> Made {
+    example(&[1, 2, 4, 3], &[1, 3, 4, 2])
+}
+
+fn example_6() -> Made {
+    example(&[1, 2, 4, 3], &[3, 2, 1, 4])
+}
+
+fn one_leaf() -> Made {
+    example(&[], &[])
+}
+
+/// Example 13: a caterpillar on both sides, and links backwards.
+fn backwards() -> Made {
+    let mut rows = vec![1, 2];
+    for i in 2..512 {
+        rows.extend([511 + i, i + 1]);
+    }
+    let mut made = example(&rows, &rows);
+    made.links.reverse();
+    made
+}
+
+/// Every call that takes a record, with arguments that are good for this made record.
+fn calls_on(made: &Made, record: &[u8]) -> Vec<String> {
+    let n = made.n as usize;
+    let mut calls: Vec<String> =
+        ["check", "count", "pairs", "entanglement"].map(|word| lines::plain(word, record)).into();
+    for side in [1, 2] {
+        calls.push(lines::order(record, side, &vec![9; n]));
+        calls.push(lines::free(record, side));
+    }
+    calls.push(lines::run(record, 130_818));
+    let last_row = made.n - 1;
+    calls.push(lines::hands(record, &[(1, last_row), (2, 1)]));
+    calls.push(lines::hands(record, &[]));
+    let first = made.present_order(1);
+    let second = made.order_of(1, &vec![1; n - 1]);
+    calls.push(lines::better("better", record, 1, &first, &second));
+    calls.push(lines::better("better_check", record, 1, &first, &second));
+    calls.push(lines::hold(record, b'B'));
+    let numbers = [vec![8; 2 * (n - 1)], vec![8; 2 * (n - 1)], vec![8; n]];
+    calls.push(lines::unpack(record, &numbers, &[vec![8; n - 1], vec![8; n - 1]]));
+    calls
+}
+
+fn examples() -> Vec<String> {
+    let mut turned = example_5();
+    turned.left_layout = vec![1, 0];
+    turned.right_layout = vec![0, 1];
+    let mut inverse = with_links(example_5(), &[2, 3, 1]);
+    inverse.left_layout = vec![1, 0];
+    inverse.right = vec![1, 2, 4, 3];
+    let pair = with_links(example(&[1, 2], &[1, 2]), &[2, 1]);
+    let good = [1, 2, 4, 3];
+    let bad = [[1, 2, 1, 3], [1, 5, 2, 3]];
+    let examples = [case_2(), example_5(), turned, inverse, example_6(), one_leaf(), pair, backwards()];
+    let mut calls: Vec<String> = Vec::new();
+    for made in &examples {
+        calls.extend(calls_on(made, &made.bytes()));
+    }
+    for rows in bad {
+        calls.push(lines::plain("check", &example(&rows, &good).bytes()));
+        calls.push(lines::plain("check", &example(&good, &rows).bytes()));
+    }
+    for hold in HOLDS {
+        let held = with_hold(case_2(), hold);
+        calls.extend(calls_on(&held, &held.bytes()));
+    }
+    let mut more = backwards();
+    more.n = 513;
+    calls.push(lines::plain("check", &more.bytes()));
+    for length in 0..12 {
+        calls.push(lines::plain("check", &vec![0; length]));
+    }
+    calls
+}
+
+/// Both sides of the allowance and of the sides' numbers.
+fn turns_and_sides() -> Vec<String> {
+    let mut calls = Vec::new();
+    for made in [case_2(), example_5(), example_6(), one_leaf(), with_hold(example_6(), b'R')] {
+        for allowance in ALLOWANCES {
+            calls.push(lines::run(&made.bytes(), allowance));
+        }
+    }
+    for hold in HOLDS {
+        let held = with_hold(case_2(), hold);
+        let order = held.present_order(1);
+        for side in SIDES {
+            calls.push(lines::order(&held.bytes(), side, &[7, 7, 7, 7]));
+            calls.push(lines::free(&held.bytes(), side));
+            calls.push(lines::better("better", &held.bytes(), side, &order, &order));
+            calls.push(lines::better("better_check", &held.bytes(), side, &order, &order));
+        }
+    }
+    calls
+}
+
+/// Buffers for an order: too short, exact, longer; none is written where one is too short.
+fn buffers() -> Vec<String> {
+    let mut calls = Vec::new();
+    for made in [one_leaf(), example(&[2, 1], &[1, 2]), case_2(), backwards()] {
+        let n = made.n as usize;
+        for places in [0, n - 1, n, n + 1] {
+            calls.push(lines::order(&made.bytes(), 1, &vec![65535; places]));
+            calls.push(lines::order(&made.bytes(), 2, &vec![0; places]));
+        }
+        calls.push(lines::order(&made.bytes(), 3, &[]));
+        calls.push(lines::order(&made.bytes(), 1, &[0; 1200]));
+    }
+    calls
+}
+
+/// Entries on both sides of the rows' numbers, bad entries after good ones, held sides.
+fn hand_lists() -> Vec<String> {
+    let mut calls = Vec::new();
+    for made in [one_leaf(), example(&[2, 1], &[1, 2]), case_2(), backwards()] {
+        for side in [0, 1, 2, 3, 257, 65535] {
+            for row in [0, 1, made.n - 1, made.n, 257, 65535] {
+                if made.n < 512 || side == 2 {
+                    calls.push(lines::hands(&made.bytes(), &[(side, row)]));
+                }
+            }
+        }
+    }
+    let lists: [&[(u16, u16)]; 12] = [
+        &[],
+        &[(1, 1), (1, 1)],
+        &[(1, 1), (1, 2), (1, 1), (2, 3)],
+        &[(1, 1), (0, 0)],
+        &[(1, 0), (0, 1)],
+        &[(2, 4), (1, 1)],
+        &[(1, 1), (2, 0)],
+        &[(2, 1), (1, 9), (3, 1)],
+        &[(2, 2), (2, 2)],
+        &[(1, 3), (1, 3), (1, 3)],
+        &[(1, 4), (2, 4)],
+        &[(2, 3), (2, 2), (2, 1), (1, 3), (1, 2), (1, 1), (3, 1)],
+    ];
+    for hold in HOLDS {
+        for list in lists {
+            calls.push(lines::hands(&with_hold(case_2(), hold).bytes(), list));
+        }
+    }
+    calls
+}
+
+/// Hand lists of 1,023 to 1,026 entries, and 17 before everything else.
+fn long_hand_lists() -> Vec<String> {
+    let mut calls = Vec::new();
+    let made = case_2();
+    let list = |length: usize| -> Vec<(u16, u16)> {
+        (0..length).map(|at| (1 + at as u16 % 2, 1 + at as u16 % 3)).collect()
+    };
+    for length in [1023, 1024, 1025, 1026, 2048] {
+        calls.push(lines::hands(&made.bytes(), &list(length)));
+        calls.push(lines::hands(&with_hold(made.clone(), b'B').bytes(), &list(length)));
+        calls.push(lines::hands(&made.bytes()[..7], &list(length)));
+        let mut last_bad = list(length);
+        last_bad[length - 1] = (2, 4);
+        calls.push(lines::hands(&made.bytes(), &last_bad));
+        calls.push(lines::hands(&one_leaf().bytes(), &list(length)));
+    }
+    let whole: Vec<(u16, u16)> = (0..1024).map(|at| (1 + at / 512, 1 + at % 511)).collect();
+    calls.push(lines::hands(&backwards().bytes(), &whole));
+    for record in faults::one_of_each() {
+        calls.push(lines::hands(&record, &[(0, 0); 1025]));
+        calls.push(lines::hands(&record, &[(0, 0); 1024]));
+    }
+    calls
+}
+
+/// Orders for the left of case 2; the second and third cross equally often.
+const PROPOSED: [&[u16]; 15] = [
+    &[4, 3, 1, 2],
+    &[3, 2, 1, 4],
+    &[4, 1, 2, 3],
+    &[1, 2, 3, 4],
+    &[2, 1, 3, 4],
+    &[3, 1, 2, 4, 0, 65535, 4],
+    &[4, 3, 2, 1, 9],
+    &[1, 3, 2, 4],
+    &[1, 2, 3],
+    &[],
+    &[1, 2, 3, 3],
+    &[0, 1, 2, 3],
+    &[1, 2, 3, 5],
+    &[257, 2, 3, 4],
+    &[1, 2, 3, 65535, 4],
+];
+
+/// Proposed orders: compatible, ties, short, longer, with entries that are no leaves.
+fn proposed_orders() -> Vec<String> {
+    let mut calls = Vec::new();
+    let record = case_2().bytes();
+    for first in PROPOSED {
+        for second in PROPOSED {
+            for word in ["better", "better_check"] {
+                calls.push(lines::better(word, &record, 1, first, second));
+            }
+        }
+        calls.push(lines::better("better", &record, 2, first, &[1, 2, 3, 4]));
+        calls.push(lines::better("better", &record, 2, &[4, 3, 2, 1], first));
+        calls.push(lines::better("better_check", &record, 2, &[4, 3, 2, 1], first));
+        calls.push(lines::better("better_check", &record, 0, first, &[]));
+    }
+    for (first, second) in [(vec![1], vec![1, 7]), (vec![1, 2], vec![1]), (vec![2], vec![1]), (vec![], vec![1])]
+    {
+        for word in ["better", "better_check"] {
+            calls.push(lines::better(word, &one_leaf().bytes(), 1, &first, &second));
+            calls.push(lines::better(word, &one_leaf().bytes(), 2, &second, &first));
+        }
+    }
+    calls.extend(long_orders());
+    calls
+}
+
+/// Proposed orders of 512 leaves and more.
+fn long_orders() -> Vec<String> {
+    let made = backwards();
+    let forwards: Vec<u16> = (1..=512).collect();
+    let reversed: Vec<u16> = (1..=512).rev().collect();
+    let mut rubbish = reversed.clone();
+    rubbish.extend([0, 513, 65535, 1]);
+    let mut exchanged = forwards.clone();
+    exchanged.swap(300, 301);
+    let root_turned = made.order_of(1, &[vec![0; 510], vec![1]].concat());
+    let mut calls = Vec::new();
+    for first in [&forwards, &reversed] {
+        for second in [&forwards, &rubbish, &root_turned, &exchanged] {
+            calls.push(lines::better("better", &made.bytes(), 2, first, second));
+        }
+    }
+    calls.push(lines::better("better_check", &made.bytes(), 1, &forwards[..511], &reversed));
+    calls.push(lines::better("better_check", &made.bytes(), 1, &reversed, &forwards[..511]));
+    calls
+}
+
+/// Setting the hold: every letter from 0 to 256 on a good record, some on others.
+fn holds() -> Vec<String> {
+    let mut calls = Vec::new();
+    for letter in 0..=256 {
+        calls.push(lines::hold(&case_2().bytes(), letter));
+    }
+    for letter in [0, 66, 76, 77, 78, 82, 110, 255] {
+        for hold in [b'L', b'R', b'B', 0, b'n'] {
+            calls.push(lines::hold(&with_hold(case_2(), hold).bytes(), letter));
+        }
+        calls.push(lines::hold(&[], letter));
+        calls.push(lines::hold(&case_2().bytes()[..7], letter));
+        calls.push(lines::hold(&one_leaf().bytes(), letter));
+    }
+    calls
+}
+
+/// A made record with one of its five lists one shorter or one longer.
+fn of_wrong_length(made: &Made) -> Vec<Made> {
+    let n = made.n as usize;
+    let mut wrong = Vec::new();
+    for change in [-1_isize, 1] {
+        let new = |length: usize| length.saturating_add_signed(change);
+        let mut lists = [(); 5].map(|_| made.clone());
+        lists[0].left.resize(new(2 * (n - 1)), 1);
+        lists[1].right.resize(new(2 * (n - 1)), 1);
+        lists[2].links.resize(new(n), 1);
+        lists[3].left_layout.resize(new(n - 1), 0);
+        lists[4].right_layout.resize(new(n - 1), 0);
+        wrong.extend(lists);
+    }
+    wrong
+}
+
+fn packing() -> Vec<String> {
+    let mut calls = Vec::new();
+    let made = case_2();
+    for letter in [0, 66, 76, 77, 78, 82, 110, 255] {
+        calls.push(lines::pack(4, &with_hold(made.clone(), letter), &[7; 46]));
+    }
+    for n in [0, 1, 2, 3, 5, 260, 512, 513, 65535] {
+        calls.push(lines::pack(n, &made, &[7; 46]));
+        calls.push(lines::pack(n, &one_leaf(), &[7; 46]));
+    }
+    for made in [one_leaf(), example(&[2, 1], &[1, 2]), made, backwards()] {
+        let length = 12 * made.n as usize - 2;
+        for places in [0, length - 1, length, length + 1, length + 40] {
+            calls.push(lines::pack(made.n, &made, &vec![7; places]));
+        }
+        if made.n < 512 {
+            calls.extend(
+                of_wrong_length(&made).iter().map(|wrong| lines::pack(made.n, wrong, &vec![7; length])),
+            );
+        }
+    }
+    let mut long = case_2();
+    long.links = vec![1; 3000];
+    long.left = vec![1; 2000];
+    long.right_layout = vec![0; 5000];
+    calls.push(lines::pack(4, &long, &[7; 9000]));
+    calls.push(lines::pack(4, &case_2(), &[7; 20_000]));
+    calls
+}
+
+/// Faults in packing's lists, alone and together, with and without a buffer too short.
+fn packing_several_faults() -> Vec<String> {
+    let faults: [fn(&mut Made); 9] = [
+        |made| made.hold = b'n',
+        |made| made.n = 513,
+        |made| made.links.push(5),
+        |made| made.left[0] = 0,
+        |made| made.right[5] = 7,
+        |made| made.links[3] = 1,
+        |made| made.left_layout[2] = 2,
+        |made| made.right_layout[0] = 255,
+        |_| {},
+    ];
+    let mut calls = Vec::new();
+    for (index, one) in faults.iter().enumerate() {
+        for two in &faults[index..] {
+            let mut made = case_2();
+            one(&mut made);
+            two(&mut made);
+            calls.push(lines::pack(made.n, &made, &[7; 46]));
+            calls.push(lines::pack(made.n, &made, &[7; 45]));
+        }
+    }
+    calls
+}
+
+/// Five buffers of n-1 rows and n leaves, so many places longer or shorter each.
+fn five_buffers(n: usize, changes: [isize; 5]) -> ([Vec<u16>; 3], [Vec<u8>; 2]) {
+    let places = |length: usize, change: isize| length.saturating_add_signed(change);
+    let [left, right, links, left_layout, right_layout] = changes;
+    let rows = 2 * (n - 1);
+    let numbers = [vec![6; places(rows, left)], vec![0; places(rows, right)], vec![65535; places(n, links)]];
+    (numbers, [vec![5; places(n - 1, left_layout)], vec![255; places(n - 1, right_layout)]])
+}
+
+fn unpacking() -> Vec<String> {
+    let mut calls = Vec::new();
+    let mut held = with_hold(case_2(), b'R');
+    held.right_layout = vec![1, 0, 1];
+    let mut most = backwards();
+    most.hold = b'B';
+    for made in [one_leaf(), with_links(example(&[2, 1], &[1, 2]), &[2, 1]), held, most] {
+        let n = made.n as usize;
+        for change in [-1, 1, 3, -2000] {
+            for buffer in 0..5 {
+                let mut changes = [0; 5];
+                changes[buffer] = change;
+                let (numbers, layouts) = five_buffers(n, changes);
+                if n < 512 || change == -1 {
+                    calls.push(lines::unpack(&made.bytes(), &numbers, &layouts));
+                }
+            }
+            let (numbers, layouts) = five_buffers(n, [change; 5]);
+            calls.push(lines::unpack(&made.bytes(), &numbers, &layouts));
+        }
+    }
+    let (numbers, layouts) = five_buffers(4, [-2; 5]);
+    calls.extend(faults::one_of_each().iter().map(|record| lines::unpack(record, &numbers, &layouts)));
+    calls
+}
+
+/// Every size at a limit, with its right length and one less and one more; records far too long.
+fn sizes() -> Vec<String> {
+    let mut random = Random::new(512);
+    let mut calls = Vec::new();
+    for n in [1, 2, 3, 511] {
+        let made = with_hold(any_record(n, &mut random), b'N');
+        let mut bytes = made.bytes();
+        let on_it = calls_on(&made, &bytes).into_iter();
+        calls.extend(on_it.step_by(if n == 511 { 4 } else { 1 }));
+        bytes.push(0);
+        calls.push(lines::plain("check", &bytes));
+        calls.push(lines::plain("check", &bytes[..bytes.len() - 2]));
+    }
+    for shape in ["balanced", "caterpillar", "random"] {
+        if let Some(made) = of_shape(shape, 512, &mut random) {
+            calls.extend(calls_on(&made, &made.bytes()));
+        }
+    }
+    let mut bytes = backwards().bytes();
+    for length in [6_141, 6_143, 6_154, 20_000] {
+        bytes.resize(length, 0);
+        calls.push(lines::plain("check", &bytes));
+        calls.push(lines::run(&bytes, 2));
+    }
+    for (high, low, length) in
+        [(2, 1, 6_154), (0, 0, 8), (0, 0, 10), (255, 255, 8), (2, 0, 8), (0, 1, 9), (0, 1, 8)]
+    {
+        bytes.resize(length, 0);
+        bytes[6] = high;
+        bytes[7] = low;
+        calls.push(lines::plain("check", &bytes));
+        calls.push(lines::free(&bytes, 1));
+    }
+    calls
+}
+
+/// Faulty records under every call that takes a record.
+fn bad_records() -> Vec<String> {
+    let mut calls = Vec::new();
+    for record in faults::single() {
+        calls.extend(calls_on(&case_2(), &record));
+    }
+    for record in faults::several() {
+        calls.push(lines::plain("check", &record));
+        calls.push(lines::run(&record, 9));
+    }
+    calls
+}
+
+/// Faulty records together with faulty arguments.
+fn bad_records_and_arguments() -> Vec<String> {
+    let mut calls = Vec::new();
+    for record in faults::one_of_each() {
+        for side in [0, 1, 3, 65535] {
+            calls.push(lines::order(&record, side, &[]));
+            calls.push(lines::free(&record, side));
+            calls.push(lines::better("better", &record, side, &[1, 1, 1, 1], &[]));
+            calls.push(lines::better("better_check", &record, side, &[1, 1, 1, 1], &[]));
+        }
+        for allowance in [0, 1, 130_818, 130_819, 4_294_967_295_u64] {
+            calls.push(lines::run(&record, allowance));
+        }
+        calls.push(lines::hold(&record, 0));
+        calls.push(lines::hold(&record, b'N'));
+        calls.push(lines::hands(&record, &[(0, 0)]));
+        let mut held = record.clone();
+        if held.len() > 5 && held[5] == b'N' {
+            held[5] = b'B';
+        }
+        calls.push(lines::free(&held, 1));
+        calls.push(lines::run(&held, 1));
+        calls.push(lines::hands(&held, &[(1, 1)]));
+    }
+    calls
+}
+
+/// Numbers with leading zeros are numbers.
+fn zeros_in_front() -> Vec<String> {
+    let record = case_2().bytes();
+    let digits = hex(&record);
+    let zeros = "0".repeat(60);
+    vec![
+        lines::order(&record, "01", &[1, 1, 1, 1]),
+        lines::free(&record, format!("{zeros}2")),
+        lines::free(&record, format!("{zeros}65535")),
+        lines::free(&record, format!("{zeros}65536")),
+        lines::run(&record, format!("{zeros}130818")),
+        lines::run(&record, format!("{zeros}4294967295")),
+        lines::hold(&record, format!("{zeros}76")),
+        format!("order {digits} 1 {zeros}1,00,{zeros}65535,000000"),
+        format!("hands {digits} 0001:0{zeros},{zeros}2:03"),
+        format!("hands {digits} 0001:0{zeros}1,{zeros}2:03"),
+        format!("better {digits} 001 04,003,0001,00002 {zeros}1,2,3,4"),
+        format!("pack 078 0001 - - {zeros}1 - - 00000000000000000000"),
+        format!("unpack {digits} {zeros},1,2,3,4,5 0,0,0,0,0,0 0,0,0,00 000000 000000"),
+    ]
+}

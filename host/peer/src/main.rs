@@ -1,0 +1,94 @@
+// peer: the paper written a second time, from its definitions, to be compared with the firmware.
+//   peer answers               answers desk's lines from standard input
+//   peer calls SEED COUNT      writes so many lines of calls
+//   peer sheet                 what `sheet` prints for the record on standard input
+//   peer record SHAPE N SEED   one good record; SHAPE is balanced, caterpillar or random
+//   peer speed CALL            nanoseconds per call; CALL is count, free or run
+
+#[cfg(test)]
+mod bench;
+mod calls;
+mod crossings;
+mod desk;
+mod edges;
+mod faults;
+mod lines;
+mod made;
+mod malformed;
+mod quick;
+mod random;
+mod record;
+mod refusals;
+mod shapes;
+mod sheet;
+mod speed;
+mod table;
+mod tree;
+
+use std::io::{self, BufWriter, Read, Write};
+use std::process::ExitCode;
+
+use random::Random;
+
+const USAGE: &str =
+    "usage: peer answers | calls SEED COUNT | sheet | record SHAPE N SEED | speed count|free|run";
+
+fn read_at_most(bytes: u64) -> io::Result<Vec<u8>> {
+    let mut input = Vec::new();
+    io::stdin().lock().take(bytes).read_to_end(&mut input)?;
+    Ok(input)
+}
+
+fn answers(out: &mut impl Write) -> io::Result<()> {
+    let input = read_at_most(desk::MOST_BYTES as u64)?;
+    for line in desk::lines(&input) {
+        writeln!(out, "{}", desk::answer(line))?;
+    }
+    Ok(())
+}
+
+fn number(word: &str) -> io::Result<u64> {
+    word.parse().map_err(io::Error::other)
+}
+
+fn one_record(shape: &str, n: &str, seed: &str, out: &mut impl Write) -> io::Result<()> {
+    let n = number(n)? as usize;
+    if !(1..=512).contains(&n) {
+        return Err(io::Error::other("n is 1 to 512"));
+    }
+    match made::of_shape(shape, n, &mut Random::new(number(seed)?)) {
+        Some(record) => out.write_all(&record.bytes()),
+        None => Err(io::Error::other(USAGE)),
+    }
+}
+
+fn speed(call: &str, out: &mut impl Write) -> io::Result<()> {
+    match speed::speed(call, &read_at_most(sheet::ENOUGH)?) {
+        Some(nanoseconds) => writeln!(out, "{nanoseconds}"),
+        None => Err(io::Error::other("no such call, or the record is refused")),
+    }
+}
+
+fn command(words: &[&str], out: &mut impl Write) -> io::Result<()> {
+    match words {
+        ["answers"] => answers(out)?,
+        ["calls", seed, count] => calls::write(number(seed)?, number(count)?, out)?,
+        ["sheet"] => write!(out, "{}", sheet::sheet(read_at_most(sheet::ENOUGH)?))?,
+        ["record", shape, n, seed] => one_record(shape, n, seed, out)?,
+        ["speed", call] => speed(call, out)?,
+        _ => return Err(io::Error::other(USAGE)),
+    }
+    out.flush()
+}
+
+fn main() -> ExitCode {
+    let words: Vec<String> = std::env::args().skip(1).collect();
+    let words: Vec<&str> = words.iter().map(String::as_str).collect();
+    match command(&words, &mut BufWriter::new(io::stdout().lock())) {
+        Ok(()) => ExitCode::SUCCESS,
+        Err(problem) => {
+            eprintln!("peer: {problem}");
+            ExitCode::FAILURE
+        }
+    }
+}

@@ -1,0 +1,116 @@
+// Lines that are no calls: fixed ones, and good lines damaged in one way at random. A damaged
+// line may by chance still be a call; it is then simply one more call.
+
+use crate::random::Random;
+
+/// Lines around one good record R, separated by `|`.
+const AROUND: &str = "\
+    Check R|CHECK R|chec R|checks R|check  R| check R|check R |check R\r|check\tR|check R -|check -R|\
+    check R-|check 0xR|check R,R|check Rg0|check R0|check R0G|check --|check RA0|check R4E|check R:|\
+    count|count R R|pairs  R|entanglement R 0|check R\0|order R 1|order R 1 |order R 1 1,2,3,|\
+    order R 1 ,1,2,3|order R 1 1,,2|order R 1 1, 2|order R -1 0|order R +1 0|order R 1 0;0|\
+    order R 65536 0,0,0,0|order R 1 0,0,0,65536|order R 1 -,-|order R - 0,0,0,0|order R 1 0,0,0,-|\
+    order R 1 0,0,0,0 0|order R 1.0 0,0,0,0|order R 0x1 0,0,0,0|order R 1 --|free R|free R 65537|\
+    free R 1 1|free R 18446744073709551617|free R 4294967297|free R 1a|free R L|free 1 R|\
+    free R 340282366920938463463374607431768211457|run R|run R 4294967296|run R 4294967298|\
+    run R 18446744073709551618|run R -1|run R 2.|run R 1e5|run R 130,818|run R |run R 2 N|hands R|\
+    hands R 1|hands R 1:|hands R :1|hands R 1:1:1|hands R 1:1,|hands R ,1:1|hands R 1:1,,2:1|\
+    hands R 1:1;2:1|hands R 65536:1|hands R 1:65536|hands R 1 :1|hands R 1,1|hands R -:-|hands R -,1:1|\
+    hands R 1:1 2:1|better R 1 1,2,3,4|better R 1 1,2,3,4 1,2,3,65536|better R 1 1,2,3,4 1,2,3,4 0|\
+    better R 65536 1,2,3,4 1,2,3,4|better R 1 1,2,3,4 1,2,3,|better_check R 1 1,2,3,4|\
+    better-check R 1 - -|better_check R 1 - 1,2,,3|bettercheck R 1 - -|hold R N|hold R 256|hold R|\
+    hold R 4294967374|hold R 334|hold R 'N'|hold R 78 |pack 78 1 - - 1 - -|pack 78 1 - - 1 - - - -|\
+    pack 256 1 - - 1 - - -|pack 78 65536 - - 1 - - -|pack 78 65537 - - 1 - - -|pack N 1 - - 1 - - -|\
+    pack 78 1 - - 65536 - - -|pack 78 1 - - 1 0 - -|pack 78 1 - - 1 - 000 -|pack 78 1 - - 1 - - 0|\
+    pack 78 1  - 1 - - -|pack R|unpack R - - - -|unpack R - - - - - -|unpack R 0, - - - -|\
+    unpack R - - - 0 -|unpack R - - - - 0g|unpack R 65536 - - - -|unpack - - - - - |unpack|desk|\
+    check 0|free - 65536|run - 4294967296|run R0 0|order - 0 1,|order 00 3 0,,0|better - 0 1, -|\
+    hands - 3:1,0|hold 00 256|pack 0 0 - - 1, - - -|unpack - - - - - 0";
+
+/// Fixed lines around one good record (its hexadecimal digits).
+pub fn fixed(record: &str) -> Vec<String> {
+    let without = ["", " ", "-", "?", "check", "check ", "check  ", "0", "help"];
+    let around = AROUND.split('|').map(|line| line.replace('R', record));
+    without.map(String::from).into_iter().chain(around).collect()
+}
+
+/// Where these bytes stand in a line.
+fn places_of(line: &[u8], wanted: impl Fn(u8) -> bool) -> Vec<usize> {
+    (0..line.len()).filter(|&at| wanted(line[at])).collect()
+}
+
+/// Puts some bytes in place of the one at a place that holds a wanted byte.
+fn replace(line: &mut Vec<u8>, wanted: impl Fn(u8) -> bool, by: &[u8], random: &mut Random) {
+    let places = places_of(line, wanted);
+    if !places.is_empty() {
+        let at = random.pick(&places);
+        line.splice(at..at + 1, by.iter().copied());
+    }
+}
+
+/// Puts some bytes in front of a word other than the first.
+fn before_a_word(line: &mut Vec<u8>, bytes: &[u8], random: &mut Random) {
+    replace(line, |byte| byte == b' ', &[b" ", bytes].concat(), random);
+}
+
+/// Puts a word in place of one other than the first.
+fn exchange_a_word(line: &mut Vec<u8>, word: &[u8], random: &mut Random) {
+    let mut words: Vec<&[u8]> = line.split(|&byte| byte == b' ').collect();
+    let at = random.below(words.len() - 1) + 1;
+    words[at] = word;
+    *line = words.join(&b' ');
+}
+
+const TOO_LARGE: [&[u8]; 8] = [
+    b"65536",
+    b"65537",
+    b"4294967296",
+    b"4294967297",
+    b"18446744073709551616",
+    b"18446744073709551617",
+    b"100000000000000000000000000000000000000001",
+    b"00000000000000000000000000000000000065536",
+];
+
+const NO_WORDS: [&[u8]; 12] =
+    [b"", b"--", b"+1", b"-1", b"1,", b",1", b"1,,2", b"1:", b":1", b"1:1:1", b"0x10", b"1.5"];
+
+const NO_BYTES: [&[u8]; 12] =
+    [b"\t", b"\r", b"\0", b"\xff", b"\xc2\xa0", b"\x0b", b"\x0c", b"A", b"F", b"g", b"_", b"/"];
+
+const NO_COMMAS: [&[u8]; 5] = [b",,", b":", b"", b", ", b";"];
+
+const FRONTS: [&[u8]; 5] = [b"+", b"-", b",", b"0x", b"000000000000000000000"];
+
+/// A good line damaged in one way.
+pub fn damaged(line: &str, random: &mut Random) -> Vec<u8> {
+    let mut line = line.as_bytes().to_vec();
+    match random.below(20) {
+        0 => line.clear(),
+        1 => before_a_word(&mut line, b" ", random),
+        2 => line.push(b' '),
+        3 => line.insert(0, b' '),
+        4 => replace(&mut line, |byte| byte == b' ', random.pick(&NO_BYTES), random),
+        5 => line.push(b'\r'),
+        6 => line[0] = line[0].to_ascii_uppercase(),
+        7 => line.truncate(line.iter().rposition(|&byte| byte == b' ').unwrap_or(0)),
+        8 => line.extend(random.pick(&[&b" -"[..], b" 0", b" 1", b" 00", b" 1,2"])),
+        9 => replace(&mut line, |byte| byte.is_ascii_hexdigit(), b"", random),
+        10 => before_a_word(&mut line, b"0", random),
+        11 => replace(&mut line, |byte| byte.is_ascii_digit(), random.pick(&NO_BYTES), random),
+        12 => exchange_a_word(&mut line, random.pick(&TOO_LARGE), random),
+        13 => exchange_a_word(&mut line, random.pick(&NO_WORDS), random),
+        14 => exchange_a_word(&mut line, b"-", random),
+        15 => replace(&mut line, |byte| byte == b',' || byte == b':', random.pick(&NO_BYTES), random),
+        16 => replace(&mut line, |byte| byte == b',', random.pick(&NO_COMMAS), random),
+        17 => before_a_word(&mut line, random.pick(&FRONTS), random),
+        18 => line.make_ascii_uppercase(),
+        _ => {
+            let any = random.below(256) as u8;
+            let at = random.below(line.len());
+            line[at] = random.pick(&[any, b' ', b'-', b'0']);
+        }
+    }
+    line.retain(|&byte| byte != b'\n');
+    line
+}

@@ -1,0 +1,132 @@
+// Freeing and running as one would ship them on a host: fixed arrays, nothing on the heap. Each
+// object has the set of places that its leaves have on the other side; a row's own crossings are
+// counted by going through the smaller set and counting ones in the larger. For measuring only:
+// `answers` uses the definitions, and the tests below compare the two.
+
+use crate::crossings::Seen;
+use crate::record::{self, Record, Side, MOST_LEAVES};
+use crate::refusals;
+use crate::tree;
+
+const MOST_TURNS: u32 = 130_818;
+
+/// The set of each object, at its number, with how many leaves it has.
+type Sets = [(Seen, u32); 2 * MOST_LEAVES];
+
+/// The sets of a side's leaves: one place each.
+fn set_leaves(record: &Record, side: Side, sets: &mut Sets) {
+    let other = if side == Side::Left { Side::Right } else { Side::Left };
+    let places = tree::places(record.rows(other), record.layout(other));
+    for (index, &right) in record.links().iter().enumerate() {
+        let (leaf, place) = match side {
+            Side::Left => (index + 1, places[right as usize - 1]),
+            Side::Right => (right as usize, places[index]),
+        };
+        sets[leaf] = (Seen::none(), 1);
+        sets[leaf].0.see(place as usize);
+    }
+}
+
+/// How many pairs have their place in the first set past their place in the second.
+fn pairs_past(first: &(Seen, u32), second: &(Seen, u32)) -> u32 {
+    let mut pairs = 0;
+    if first.1 < second.1 {
+        first.0.each(|place| pairs += second.1 - second.0.past(place));
+    } else {
+        second.0.each(|place| pairs += first.0.past(place));
+    }
+    pairs
+}
+
+/// Frees a side; the answer is the sum of own crossings before and after.
+fn free_side(record: &mut Record, side: Side, sets: &mut Sets) -> (u32, u32) {
+    set_leaves(record, side, sets);
+    let (mut before, mut after) = (0, 0);
+    for index in 0..record.n - 1 {
+        let [upper, lower] = record.rows(side)[index].map(|child| child as usize);
+        let as_given = pairs_past(&sets[upper], &sets[lower]);
+        let turned_over = sets[upper].1 * sets[lower].1 - as_given;
+        let turned = record.layout(side)[index] == 1;
+        let (own, others) = if turned { (turned_over, as_given) } else { (as_given, turned_over) };
+        if others < own {
+            record.turn(side, index);
+        }
+        before += own;
+        after += own.min(others);
+        sets[record.n + index + 1] = both(&sets[upper], &sets[lower]);
+    }
+    (before, after)
+}
+
+fn both(first: &(Seen, u32), second: &(Seen, u32)) -> (Seen, u32) {
+    let mut set = first.0;
+    for (word, more) in set.words.iter_mut().zip(second.0.words) {
+        *word |= more;
+    }
+    (set, first.1 + second.1)
+}
+
+/// As `table::free`.
+pub fn free(bytes: &mut [u8], side: u16) -> Result<(u32, u32), u16> {
+    let side = Side::of(side)?;
+    let mut record = record::read(bytes)?;
+    if record.held(side) {
+        return Err(refusals::HELD);
+    }
+    let mut sets = [(Seen::none(), 0); 2 * MOST_LEAVES];
+    let counts = free_side(&mut record, side, &mut sets);
+    record.put_layouts(bytes);
+    Ok(counts)
+}
+
+/// As `table::run`; the answer is the first count, the last count, the turns and settled.
+pub fn run(bytes: &mut [u8], allowance: u32) -> Result<(u32, u32, u32, bool), u16> {
+    if allowance == 0 || allowance > MOST_TURNS {
+        return Err(refusals::ALLOWANCE);
+    }
+    let mut record = record::read(bytes)?;
+    if record.hold != b'N' {
+        return Err(refusals::HELD);
+    }
+    let mut sets = [(Seen::none(), 0); 2 * MOST_LEAVES];
+    let (first, mut last) = free_side(&mut record, Side::Left, &mut sets);
+    let mut turns = 1;
+    let mut settled = false;
+    while turns < allowance && !settled {
+        turns += 1;
+        let side = if turns % 2 == 1 { Side::Left } else { Side::Right };
+        let (before, after) = free_side(&mut record, side, &mut sets);
+        settled = before == after;
+        last = after;
+    }
+    record.put_layouts(bytes);
+    Ok((first, last, turns, settled))
+}
+
+#[cfg(test)]
+mod tests {
+    use super::*;
+    use crate::made;
+    use crate::random::Random;
+    use crate::table;
+
+    #[test]
+    fn quick_calls_do_what_the_definitions_say() {
+        let mut random = Random::new(11);
+        for round in 0..500 {
+            let n = if round % 50 == 0 { 512 } else { 1 + random.below(90) };
+            let bytes = made::any_record(n, &mut random).bytes();
+            for side in [1, 2] {
+                let (mut one, mut two) = (bytes.clone(), bytes.clone());
+                assert_eq!(free(&mut one, side), table::free(&mut two, side));
+                assert_eq!(one, two);
+            }
+            for allowance in [0, 1, 2, 3, MOST_TURNS] {
+                let (mut one, mut two) = (bytes.clone(), bytes.clone());
+                let report = |run: table::Run| (run.first, run.last, run.turns, run.settled);
+                assert_eq!(run(&mut one, allowance), table::run(&mut two, allowance).map(report));
+                assert_eq!(one, two);
+            }
+        }
+    }
+}

@@ -1,0 +1,260 @@
+// The calls of the table, each with its refusals in the paper's order: 17, 12, 13, then the
+// record's 1 to 10, then 16, 11, 14. A call that is refused leaves what was lent as it was,
+// because it works on a record of its own and puts layouts back at the end only.
+
+use crate::crossings;
+use crate::record::{self, Record, Side};
+use crate::refusals;
+use crate::tree;
+
+const MOST_TURNS: u32 = 130_818;
+const MOST_HANDS: usize = 1_024;
+
+/// 1 to 10, or 0.
+pub fn check(bytes: &[u8]) -> u16 {
+    record::read(bytes).err().unwrap_or(0)
+}
+
+/// Writes a side's leaf order: 13, 1 to 10, 14, or 0.
+pub fn order(bytes: &[u8], side: u16, out: &mut [u16]) -> Result<(), u16> {
+    let side = Side::of(side)?;
+    let record = record::read(bytes)?;
+    if out.len() < record.n {
+        return Err(refusals::BUFFER);
+    }
+    out[..record.n].copy_from_slice(&present_order(&record, side));
+    Ok(())
+}
+
+fn present_order(record: &Record, side: Side) -> Vec<u16> {
+    tree::leaf_order(record.rows(side), record.layout(side))
+}
+
+/// The count by seen places: 1 to 10, or the count.
+pub fn count(bytes: &[u8]) -> Result<u32, u16> {
+    Ok(crossings::count_seen(&record::read(bytes)?))
+}
+
+/// The count pair by pair: 1 to 10, or the count.
+pub fn pairs(bytes: &[u8]) -> Result<u32, u16> {
+    Ok(count_pairs(&record::read(bytes)?))
+}
+
+fn count_pairs(record: &Record) -> u32 {
+    crossings::pair_by_pair(&crossings::present_places(record))
+}
+
+#[derive(Debug, PartialEq)]
+pub struct Entanglement {
+    pub d: u64,
+    pub w: u64,
+    pub ratio: Option<f64>,
+}
+
+/// D, W and D divided by W, which is no ratio for one leaf: 1 to 10, or these.
+pub fn entanglement(bytes: &[u8]) -> Result<Entanglement, u16> {
+    let record = record::read(bytes)?;
+    let square = |link: &crossings::LinkPlaces| (link.left.abs_diff(link.right) as u64).pow(2);
+    let d = crossings::present_places(&record).iter().map(square).sum();
+    let n = record.n as u64;
+    let w = n * (n * n - 1) / 3;
+    let ratio = if n == 1 { None } else { Some(d as f64 / w as f64) };
+    Ok(Entanglement { d, w, ratio })
+}
+
+/// Turns each row of a side, from its present byte, exactly if that makes its own crossings
+/// strictly fewer. The other side stands.
+fn free_side(record: &mut Record, side: Side) {
+    let own = crossings::own_crossings(record, side);
+    for (index, (crossing, upper, lower)) in own.into_iter().enumerate() {
+        if upper * lower - crossing < crossing {
+            record.turn(side, index);
+        }
+    }
+}
+
+/// Frees a side: 13, 1 to 10, 11, or the count before and the count after.
+pub fn free(bytes: &mut [u8], side: u16) -> Result<(u32, u32), u16> {
+    let side = Side::of(side)?;
+    let mut record = record::read(bytes)?;
+    if record.held(side) {
+        return Err(refusals::HELD);
+    }
+    let before = count_pairs(&record);
+    free_side(&mut record, side);
+    record.put_layouts(bytes);
+    Ok((before, count_pairs(&record)))
+}
+
+#[derive(Debug, PartialEq)]
+pub struct Run {
+    pub first: u32,
+    pub last: u32,
+    pub turns: u32,
+    pub settled: bool,
+}
+
+/// Frees left and right by turns: 12, 1 to 10, 11, or what the run reports.
+pub fn run(bytes: &mut [u8], allowance: u32) -> Result<Run, u16> {
+    if allowance == 0 || allowance > MOST_TURNS {
+        return Err(refusals::ALLOWANCE);
+    }
+    let mut record = record::read(bytes)?;
+    if record.held(Side::Left) || record.held(Side::Right) {
+        return Err(refusals::HELD);
+    }
+    let run = take_turns(&mut record, allowance);
+    record.put_layouts(bytes);
+    Ok(run)
+}
+
+/// Turn 1 frees the left, turn 2 the right, and so on, up to the first turn other than turn 1
+/// that gains nothing, or up to the allowance.
+fn take_turns(record: &mut Record, allowance: u32) -> Run {
+    let first = count_pairs(record);
+    let mut last = first;
+    for turn in 1..=allowance {
+        let side = if turn % 2 == 1 { Side::Left } else { Side::Right };
+        free_side(record, side);
+        let before = last;
+        last = count_pairs(record);
+        if turn > 1 && last == before {
+            return Run { first, last, turns: turn, settled: true };
+        }
+    }
+    Run { first, last, turns: allowance, settled: false }
+}
+
+/// Applies a hand list of sides and rows: 17, 1 to 10, then for the first bad entry 13, 15, 11.
+pub fn hands(bytes: &mut [u8], entries: &[(u16, u16)]) -> Result<(), u16> {
+    if entries.len() > MOST_HANDS {
+        return Err(refusals::HANDS);
+    }
+    let mut record = record::read(bytes)?;
+    for &(side, row) in entries {
+        let side = Side::of(side)?;
+        if row == 0 || row as usize > record.n - 1 {
+            return Err(refusals::ROW);
+        }
+        if record.held(side) {
+            return Err(refusals::HELD);
+        }
+        record.turn(side, row as usize - 1);
+    }
+    record.put_layouts(bytes);
+    Ok(())
+}
+
+/// The tests of better of two: 13, 1 to 10, 16; else the record and the side.
+fn test_better(bytes: &[u8], side: u16, first: &[u16], second: &[u16]) -> Result<(Record, Side), u16> {
+    let side = Side::of(side)?;
+    let record = record::read(bytes)?;
+    for order in [first, second] {
+        if order.len() < record.n || !tree::is_compatible(record.rows(side), &order[..record.n]) {
+            return Err(refusals::ORDER);
+        }
+    }
+    Ok((record, side))
+}
+
+/// The number that better of two has for these inputs, or 0.
+pub fn better_check(bytes: &[u8], side: u16, first: &[u16], second: &[u16]) -> u16 {
+    test_better(bytes, side, first, second).err().unwrap_or(0)
+}
+
+/// The first n entries of the order that crosses less against the other side's present order,
+/// of the first on a tie; an empty part of the first where the check has a number.
+pub fn better<'a>(bytes: &[u8], side: u16, first: &'a [u16], second: &'a [u16]) -> &'a [u16] {
+    let Ok((record, side)) = test_better(bytes, side, first, second) else {
+        return &first[..0];
+    };
+    let crossing = |order: &[u16]| {
+        let links = match side {
+            Side::Left => crossings::link_places(order, &present_order(&record, Side::Right), record.links()),
+            Side::Right => crossings::link_places(&present_order(&record, Side::Left), order, record.links()),
+        };
+        crossings::pair_by_pair(&links)
+    };
+    let (first, second) = (&first[..record.n], &second[..record.n]);
+    if crossing(second) < crossing(first) {
+        second
+    } else {
+        first
+    }
+}
+
+#[cfg(test)]
+mod tests {
+    use super::*;
+    use crate::made;
+    use crate::random::Random;
+
+    fn least_over_all_layouts(record: &made::Made, side: u16) -> u32 {
+        let bits = 0..1 << (record.n - 1);
+        let counts = bits.map(|bits| {
+            let mut laid = record.clone();
+            *laid.layout_mut(side) = made::layout_of_bits(record.n as usize, bits);
+            pairs(&laid.bytes()).unwrap()
+        });
+        counts.min().unwrap()
+    }
+
+    #[test]
+    fn freeing_gives_the_least_count_over_all_layouts() {
+        let mut random = Random::new(7);
+        for round in 0..210 {
+            let n = 1 + round % 7;
+            let mut record = made::any_record(n, &mut random);
+            record.hold = b'N';
+            for side in [1, 2] {
+                let mut bytes = record.bytes();
+                let (before, after) = free(&mut bytes, side).unwrap();
+                assert_eq!(before, pairs(&record.bytes()).unwrap());
+                assert_eq!(after, pairs(&bytes).unwrap());
+                assert_eq!(after, least_over_all_layouts(&record, side));
+            }
+        }
+    }
+
+    #[test]
+    fn a_run_ends_where_the_paper_says() {
+        let mut random = Random::new(8);
+        for _ in 0..200 {
+            let n = 1 + random.below(12);
+            let mut record = made::any_record(n, &mut random);
+            record.hold = b'N';
+            let whole = run(&mut record.bytes(), MOST_TURNS).unwrap();
+            assert!(whole.settled && whole.turns >= 2);
+            for allowance in 1..=whole.turns + 1 {
+                let mut by_run = record.bytes();
+                let report = run(&mut by_run, allowance).unwrap();
+                let mut by_hand = record.bytes();
+                let mut counts = vec![pairs(&by_hand).unwrap()];
+                for turn in 1..=report.turns {
+                    counts.push(free(&mut by_hand, if turn % 2 == 1 { 1 } else { 2 }).unwrap().1);
+                }
+                assert_eq!(by_run, by_hand);
+                assert_eq!((report.first, report.last), (counts[0], *counts.last().unwrap()));
+                assert_eq!(report.turns, allowance.min(whole.turns));
+                assert_eq!(report.settled, allowance >= whole.turns);
+            }
+        }
+    }
+
+    #[test]
+    fn better_of_two_takes_the_first_on_a_tie() {
+        let mut record = made::example(&[1, 2, 4, 3], &[1, 2, 4, 3]);
+        record.links = vec![1, 3, 2];
+        let bytes = record.bytes();
+        let orders: [&[u16]; 4] = [&[1, 2, 3], &[2, 1, 3], &[3, 1, 2], &[3, 2, 1]];
+        let counts = [1, 2, 1, 2];
+        for first in 0..4 {
+            for second in 0..4 {
+                let part = better(&bytes, 1, orders[first], orders[second]);
+                let wanted = if counts[second] < counts[first] { second } else { first };
+                assert_eq!(part.as_ptr(), orders[wanted].as_ptr());
+                assert_eq!(part.len(), 3);
+            }
+        }
+    }
+}
