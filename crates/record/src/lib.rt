@@ -1,13 +1,13 @@
 // The record: the bytes that are the device's whole state, the hold mark among them. Reading, refusing, packing,
 // the hold.
-mod copying;
+pub mod copying;
 mod filling;
 mod hold;
 mod links;
 pub mod packing;
 pub mod reading;
 pub mod refusal;
-mod testing;
+pub mod testing;
 pub mod unpacking;
 
 pub use filling::fill_links;
