@@ -1,11 +1,11 @@
 -- `pack` answers the first refusal, or writes the record.
 use mathlib.Core.Path.{sym, _∙_}
 use native.Mathlib.Omega.{arith}
-use Rattle.record.proofs.Packed.{shape-some, shape-good, packing-shape, packing-contents, packing-14, packing-0}
-use Rattle.record.proofs.Packed.{pack-refused, pack-accepted}
+use Rattle.packing.proofs.Packed.{shape-some, shape-good, packing-shape, packing-contents, packing-14, packing-0}
+use Rattle.packing.proofs.Packed.{pack-refused, pack-accepted}
 use borrow.Author.Needs.{needs}
-use Rattle.record.proofs.packing.pack.Statement.{statement}
-use Rattle.record.proofs.packing.pack.Tie as tie
+use Rattle.packing.proofs.packing.pack.Statement.{statement}
+use Rattle.packing.proofs.packing.pack.Tie as tie
 
 shape-number-requires : tie.Need-shape-number-requires
 shape-number-requires c κs = search needs
