@@ -43,7 +43,7 @@ returns-3 c =
     let a = p .before .before .before .before .before .before .before .before .args in
     let s = sym (p .before .shape-number .ensures) ∙ p .if1 .left in
     let l = sym (q .before .lists-number .ensures (a .hold)) ∙ q .if2 .left in
-    pack-refused _ _ (packing-14 _ _ s l (c .if3 .taken)) (omega arith)
+    pack-refused _ _ (packing-14 _ _ s l (omega arith)) (omega arith)
 
 write-record-requires : tie.Need-write-record-requires
 write-record-requires c κs =
