@@ -9,7 +9,7 @@ use crate::parsing::number;
 use crate::words::part;
 use crate::words::part_bytes;
 use crate::words::word;
-use record::unpacking::Unpacked;
+use packing::unpacking::Unpacked;
 
 // pack HOLD N LEFT RIGHT LINKS LAYOUT LAYOUT OUT -> NUMBER OUT
 pub fn pack(
@@ -119,7 +119,7 @@ fn pack_all(
     if 65535 < n {
         return no_call(out, at);
     }
-    let done = record::pack(
+    let done = packing::pack(
         hold as u8,
         n as u16,
         left,
@@ -251,7 +251,7 @@ fn unpack_all(
     out: &mut [u8],
     at: usize,
 ) -> usize {
-    let answer = record::unpack(s, left, right, links, leftlayout, rightlayout);
+    let answer = packing::unpack(s, left, right, links, leftlayout, rightlayout);
     unpacked(answer, left, right, links, leftlayout, rightlayout, out, at)
 }
 

@@ -9,13 +9,16 @@ use Rattle.tanglegram.specs.Lists.{Each}
 use Rattle.record.specs.declared.refusal.Refusal.{Refusal}
 use Rattle.record.specs.Fields.{holdOf, sizeOf, rightAt, linksAt, leftLayoutAt, rightLayoutAt, lengthOf}
 use Rattle.record.specs.Fields.{Parts, given, parts, partsOf, packed}
-use Rattle.record.specs.Refusals.{refusal, room, unpacking, packing}
-use Rattle.record.specs.Calls.{lent, Packs}
+use Rattle.record.specs.Refusals.{refusal}
+use Rattle.record.specs.Calls.{lent}
 use Rattle.record.proofs.Stores.{length-numbers, length-bytes}
-use Rattle.record.proofs.Acceptance.{accepted-sized, Room, room-0}
-use Rattle.record.proofs.Outcomes.{lent-accepted, unpack-second, unpack-record}
-use Rattle.record.proofs.Packed.{shape-good, packing-good, length-packed}
-use Rattle.record.proofs.RoundTrip.{size-packed, parts-packed, packed-accepted, packed-parts, parts-accepted}
+use Rattle.record.proofs.Acceptance.{accepted-sized}
+use Rattle.record.proofs.Outcomes.{lent-accepted}
+use Rattle.packing.specs.Refusals.{room, unpacking, packing}
+use Rattle.packing.specs.Calls.{Packs}
+use Rattle.packing.proofs.Unpacked.{Room, room-0, unpack-second, unpack-record}
+use Rattle.packing.proofs.Packed.{shape-good, packing-good, length-packed}
+use Rattle.packing.proofs.RoundTrip.{size-packed, parts-packed, packed-accepted, packed-parts, parts-accepted}
 use Rattle.promises.specs.RecordOutcomes.{UnpackOutcome, UnpacksTo}
 use Rattle.promises.specs.RecordRoundTrip.{RoomFor, CameTo, partsIn, RecordRoundTrip}
 

@@ -7,7 +7,8 @@ use mathlib.Core.List.{List}
 use Rattle.record.specs.declared.refusal.Refusal.{Refusal}
 use Rattle.record.specs.declared.reading.Reading.{Reading}
 use Rattle.record.specs.Fields.{Parts}
-use Rattle.record.specs.Calls.{Reads, numberOf, holdIn, sizeIn, Packs, SetsHold}
+use Rattle.record.specs.Calls.{Reads, numberOf, holdIn, sizeIn, SetsHold}
+use Rattle.packing.specs.Calls.{Packs}
 use Rattle.promises.specs.RecordOutcomes.{UnpackOutcome, UnpacksTo}
 
 -- Unpacking came to nothing: hold and n are zero, and the five buffers are as found.

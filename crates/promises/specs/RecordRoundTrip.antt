@@ -6,7 +6,8 @@ use lib.ListN.{length, take}
 use Rattle.tanglegram.specs.Lists.{Each}
 use Rattle.record.specs.declared.refusal.Refusal.{Refusal}
 use Rattle.record.specs.Fields.{lengthOf, Parts, given}
-use Rattle.record.specs.Calls.{refused, Packs}
+use Rattle.record.specs.Calls.{refused}
+use Rattle.packing.specs.Calls.{Packs}
 use Rattle.promises.specs.RecordOutcomes.{UnpackOutcome, UnpacksTo}
 
 -- Buffers with the places for these parts.

@@ -7,5 +7,3 @@ pub mod Acceptance
 pub mod Outcomes
 pub mod Tables
 pub mod Meaning
-pub mod Packed
-pub mod RoundTrip

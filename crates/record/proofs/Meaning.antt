@@ -1,7 +1,7 @@
 -- An accepted record makes a fair table with layouts that fit it. A record with other layouts of the same lengths has the same
 -- hold, trees and links, and is accepted again if the layouts' bytes are good.
 use Prim.Native.Nat.{ℕ, _+_, _-_, _*_, _≤_, _<_}
-use mathlib.Core.Path.{_≡_, refl, sym, ap, ap₂, _∙_}
+use mathlib.Core.Path.{_≡_, refl, sym, ap, _∙_}
 use mathlib.Core.Bool.{true, false, not}
 use mathlib.Core.List.{List, _++_, List·Permᴰ}
 use native.Mathlib.Omega.{arith}
@@ -108,7 +108,7 @@ module _ (s : List ℕ) (z : Sized s (sizeOf s)) (new : Layouts)
       ∙ getD-take (leftLayoutAt (sizeOf s)) s k 0 h
 
   two-same : (k : ℕ) → k + 1 < leftLayoutAt (sizeOf s) → two (relaid s new) k ≡ two s k
-  two-same k h = ap₂ (λ x y. x * 256 + y) (front-same k (omega arith)) (front-same (k + 1) h)
+  two-same k h = rw (front-same k (omega arith), front-same (k + 1) h) refl
 
   numbers-same : (k m : ℕ) → k + 2 * m ≤ leftLayoutAt (sizeOf s) → numbers (relaid s new) k m ≡ numbers s k m
   unfolding numbers

@@ -1,4 +1,4 @@
--- What each call on records answers, and what it leaves in what was lent to it, for every input.
+-- What each call on a record's bytes answers, and what it leaves in what was lent to it, for every input.
 use Prim.Native.Nat.{ℕ}
 use mathlib.Core.Path.{_≡_}
 use mathlib.Core.Bool.{Bool, true, false, cond}
@@ -8,9 +8,8 @@ use lib.ListN.{length, drop, set}
 use Rattle.record.specs.declared.refusal.Refusal.{Refusal}
 use Rattle.record.specs.declared.reading.Reading.{Reading}
 use Rattle.record.specs.declared.reading.Reading.the-variants.{Accepted, Refused}
-use Rattle.record.specs.declared.unpacking.Unpacked.{Unpacked}
-use Rattle.record.specs.Fields.{holdOf, sizeOf, Parts, parts, packed}
-use Rattle.record.specs.Refusals.{refusal, unpacking, packing, holding}
+use Rattle.record.specs.Fields.{holdOf, sizeOf}
+use Rattle.record.specs.Refusals.{refusal, holding}
 
 -- A refusal by its number, 0 for none; whether a call with that number is accepted.
 abbrev pub refused : ℕ → Refusal
@@ -55,30 +54,6 @@ sizeIn (Refused r) = 0
 
 pub record Reads (s : List ℕ) (answer : Reading) : Type 0 where
   pub answers : answer ≡ readingOf s
-
--- ---- unpacking: what it answers if refused; five buffers, and what they hold afterwards
-
-abbrev pub unpackedNone : ℕ → Unpacked
-unpackedNone k = record { refusal = refused k; hold = 0; n = 0 }
-
-pub record Unpacks (s left right links left-layout right-layout : List ℕ) (answer : Unpacked)
-    (left′ right′ links′ left-layout′ right-layout′ : List ℕ) : Type 0 where
-  pub answers :
-      let k = unpacking s left right links left-layout right-layout in
-      answer ≡ record { refusal = refused k; hold = orZero k (holdOf s); n = orZero k (sizeOf s) }
-  pub leaves-left : left′ ≡ lent (unpacking s left right links left-layout right-layout) (parts s .left-rows) left
-  pub leaves-right : right′ ≡ lent (unpacking s left right links left-layout right-layout) (parts s .right-rows) right
-  pub leaves-links : links′ ≡ lent (unpacking s left right links left-layout right-layout) (parts s .links) links
-  pub leaves-left-layout :
-      left-layout′ ≡ lent (unpacking s left right links left-layout right-layout) (parts s .left-layout) left-layout
-  pub leaves-right-layout :
-      right-layout′ ≡ lent (unpacking s left right links left-layout right-layout) (parts s .right-layout) right-layout
-
--- ---- packing: a buffer, and what it holds afterwards
-
-pub record Packs (P : Parts) (out : List ℕ) (answer : Refusal) (out′ : List ℕ) : Type 0 where
-  pub answers : answer ≡ refused (packing P out)
-  pub leaves : out′ ≡ lent (packing P out) (packed P) out
 
 -- ---- setting the hold: the record, and what it is afterwards
 

@@ -1,5 +1,5 @@
--- The refusals 1 to 10 and 14, as document 01's table has them. 0 is no refusal.
-use Prim.Native.Nat.{ℕ, zero, suc, _-_, _*_}
+-- The refusals 1 to 10, as document 01's table has them. 0 is no refusal.
+use Prim.Native.Nat.{ℕ, zero, suc}
 use mathlib.Core.Bool.{Bool, true, cond, not, _&&_, _||_}
 use mathlib.Core.List.{List, [], _∷_}
 use lib.Dec.{eqb, leb, ltb}
@@ -77,44 +77,6 @@ heading s =
 unfoldable pub refusal : List ℕ → ℕ
 unfolding heading contents
 refusal s = orElse (heading s) (contents (parts s))
-
--- Unpacking's, with the number of places of each buffer: for the left rows, the right rows, the links and the two layouts.
-unfoldable pub room : ℕ → ℕ → ℕ → ℕ → ℕ → ℕ → ℕ
-room n left right links left-layout right-layout =
-    14 when ltb left (2 * (n - 1))
-    else 14 when ltb right (2 * (n - 1))
-    else 14 when ltb links n
-    else 14 when ltb left-layout (n - 1)
-    else 14 when ltb right-layout (n - 1)
-    else 0
-
-unfoldable pub unpacking : List ℕ → List ℕ → List ℕ → List ℕ → List ℕ → List ℕ → ℕ
-unfolding refusal room
-unpacking s left right links left-layout right-layout =
-    orElse (refusal s)
-    (room (sizeOf s) (length left) (length right) (length links) (length left-layout) (length right-layout))
-
--- Packing's, with the buffer whose places count: first the hold, n, and the length of each list.
-unfoldable pub shape : ℕ → ℕ → ℕ → ℕ → ℕ → ℕ → ℕ → ℕ
-unfolding isHold noSize
-shape hold n left right links left-layout right-layout =
-    4 when not (isHold hold)
-    else 5 when noSize n
-    else 6 when not (eqb left (2 * (n - 1)))
-    else 6 when not (eqb right (2 * (n - 1)))
-    else 6 when not (eqb links n)
-    else 6 when not (eqb left-layout (n - 1))
-    else 6 when not (eqb right-layout (n - 1))
-    else 0
-
-abbrev pub shapeOf : Parts → ℕ
-shapeOf P =
-    shape (P .hold) (P .size) (length (P .left-rows)) (length (P .right-rows)) (length (P .links)) (length (P .left-layout))
-    (length (P .right-layout))
-
-unfoldable pub packing : Parts → List ℕ → ℕ
-unfolding shape contents
-packing P out = orElse (shapeOf P) (orElse (contents P) (14 when ltb (length out) (lengthOf (P .size)) else 0))
 
 -- Setting the hold's: the letter is tested before the record.
 unfoldable pub holding : List ℕ → ℕ → ℕ

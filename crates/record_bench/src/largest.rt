@@ -41,7 +41,7 @@ fn packed(out: &mut [u8]) -> u16 {
     let rows = chain();
     let links = straight();
     let layout = [0u8; 511];
-    let done = record::pack(b'N', 512, &rows, &rows, &links, &layout, &layout, out);
+    let done = packing::pack(b'N', 512, &rows, &rows, &links, &layout, &layout, out);
     done.number
 }
 
@@ -59,7 +59,7 @@ fn too_many() -> u16 {
     let links = [0u16; 513];
     let layout = [0u8; 512];
     let mut out = [0u8; 6154];
-    let done = record::pack(b'N', 513, &rows, &rows, &links, &layout, &layout, &mut out);
+    let done = packing::pack(b'N', 513, &rows, &rows, &links, &layout, &layout, &mut out);
     done.number
 }
 

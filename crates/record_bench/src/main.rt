@@ -2,7 +2,7 @@
 mod checking;
 mod good;
 mod largest;
-mod packing;
+mod packing_parts;
 mod printing;
 mod unpacking;
 
@@ -11,6 +11,6 @@ fn main() {
     checking::contents();
     checking::first_faults();
     largest::sizes();
-    packing::cases();
+    packing_parts::cases();
     unpacking::cases();
 }

@@ -26,7 +26,7 @@ shared-slice-read-if1 c = search needs
 returns : tie.Need-returns Inv-loop μ-loop
 returns c =
     let s = c .before .before .before .before .args in
-    sym (layout-fails (s .bytes .now) (c .before .before .before .loop .i) (omega arith) (c .if1 .taken))
+    sym (layout-fails (s .bytes .now) (c .before .before .before .loop .i) (omega arith) (omega arith))
 
 add-i : tie.Need-add-i Inv-loop μ-loop
 add-i c = search needs

@@ -3,8 +3,8 @@ use mathlib.Core.Path.{sym}
 use native.Mathlib.Omega.{arith}
 use lib.Seq.{length-take-le}
 use borrow.Author.Needs.{needs}
-use Rattle.record_bench.proofs.packing.sized.Statement.{statement}
-use Rattle.record_bench.proofs.packing.sized.Tie as tie
+use Rattle.record_bench.proofs.packing_parts.sized.Statement.{statement}
+use Rattle.record_bench.proofs.packing_parts.sized.Tie as tie
 
 array-share-prefix-a : tie.Need-array-share-prefix-a
 array-share-prefix-a c = search needs

@@ -5,10 +5,10 @@ use native.Mathlib.Nat.{add-sub-cancel-left}
 use native.Mathlib.Omega.{arith}
 use lib.ListN.{length}
 use lib.Seq.{sets}
 use Rattle.record.specs.Fields.{partsOf, bytes, leftLayoutAt, rightLayoutAt}
 use borrow.Author.Needs.{needs}
-use Rattle.record.proofs.unpacking.write_parts.Statement.{statement}
-use Rattle.record.proofs.unpacking.write_parts.Tie as tie
+use Rattle.packing.proofs.unpacking.write_parts.Statement.{statement}
+use Rattle.packing.proofs.unpacking.write_parts.Tie as tie
 
 sub-m : tie.Need-sub-m
 sub-m c = search needs

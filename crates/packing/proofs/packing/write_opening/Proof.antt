@@ -3,8 +3,8 @@ use mathlib.Core.Path.{refl}
 use native.Mathlib.Omega.{arith}
 use lib.ListN.{length-set}
 use borrow.Author.Needs.{needs}
-use Rattle.record.proofs.packing.write_opening.Statement.{statement}
-use Rattle.record.proofs.packing.write_opening.Tie as tie
+use Rattle.packing.proofs.packing.write_opening.Statement.{statement}
+use Rattle.packing.proofs.packing.write_opening.Tie as tie
 
 slice-write-out : tie.Need-slice-write-out
 slice-write-out c = search needs

@@ -1,10 +1,10 @@
 -- `room_number` gives 14 if a buffer has too few places.
 use mathlib.Core.Path.{refl}
 use borrow.Author.Tests.{lt-ltb, le-ltb}
-use Rattle.record.specs.Refusals.{room}
+use Rattle.packing.specs.Refusals.{room}
 use borrow.Author.Needs.{needs}
-use Rattle.record.proofs.unpacking.room_number.Statement.{statement}
-use Rattle.record.proofs.unpacking.room_number.Tie as tie
+use Rattle.packing.proofs.unpacking.room_number.Statement.{statement}
+use Rattle.packing.proofs.unpacking.room_number.Tie as tie
 
 sub-m : tie.Need-sub-m
 sub-m c = search needs

@@ -2,11 +2,11 @@
 use mathlib.Core.Path.{refl, sym, _∙_}
 use native.Mathlib.Omega.{arith}
 use borrow.Author.Tests.{eq-eqb, ne-eqb}
-use Rattle.record.specs.Refusals.{shape}
+use Rattle.packing.specs.Refusals.{shape}
 use Rattle.record.proofs.Heading.{passed, failed, sized}
 use borrow.Author.Needs.{needs}
-use Rattle.record.proofs.packing.shape_number.Statement.{statement}
-use Rattle.record.proofs.packing.shape_number.Tie as tie
+use Rattle.packing.proofs.packing.shape_number.Statement.{statement}
+use Rattle.packing.proofs.packing.shape_number.Tie as tie
 
 is-hold-requires : tie.Need-is-hold-requires
 is-hold-requires c κs = search needs

@@ -3,15 +3,15 @@ ghost use mathlib.Core.Path.{_≡_};
 ghost use Prim.Native.Nat.{_≤_, _*_, _-_};
 ghost use lib.ListN.{length};
 ghost use lib.Seq.{sets};
-ghost use Rattle.record.specs.Calls.{unpackedNone, Unpacks};
+ghost use Rattle.packing.specs.Calls.{unpackedNone, Unpacks};
+ghost use Rattle.packing.specs.Refusals.{room};
 ghost use Rattle.record.specs.Fields.{partsOf, Sized};
-ghost use Rattle.record.specs.Refusals.{room};
-use crate::copying::bytes_in;
-use crate::copying::number;
-use crate::copying::numbers_out;
-use crate::reading::refusal_number;
-use crate::refusal::ROOM;
-use crate::refusal::Refusal;
+use record::copying::bytes_in;
+use record::copying::number;
+use record::copying::numbers_out;
+use record::reading::refusal_number;
+use record::refusal::ROOM;
+use record::refusal::Refusal;
 
 // What unpacking answers beside the buffers; hold and n are 0 where it refuses.
 pub struct Unpacked {

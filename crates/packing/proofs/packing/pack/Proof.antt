@@ -1,11 +1,11 @@
 -- `pack` answers the first refusal, or writes the record.
 use mathlib.Core.Path.{sym, _∙_}
 use native.Mathlib.Omega.{arith}
-use Rattle.record.proofs.Packed.{shape-some, shape-good, packing-shape, packing-contents, packing-14, packing-0}
-use Rattle.record.proofs.Packed.{pack-refused, pack-accepted}
+use Rattle.packing.proofs.Packed.{shape-some, shape-good, packing-shape, packing-contents, packing-14, packing-0}
+use Rattle.packing.proofs.Packed.{pack-refused, pack-accepted}
 use borrow.Author.Needs.{needs}
-use Rattle.record.proofs.packing.pack.Statement.{statement}
-use Rattle.record.proofs.packing.pack.Tie as tie
+use Rattle.packing.proofs.packing.pack.Statement.{statement}
+use Rattle.packing.proofs.packing.pack.Tie as tie
 
 shape-number-requires : tie.Need-shape-number-requires
 shape-number-requires c κs = search needs
@@ -43,7 +43,7 @@ returns-3 c =
     let a = p .before .before .before .before .before .before .before .before .args in
     let s = sym (p .before .shape-number .ensures) ∙ p .if1 .left in
     let l = sym (q .before .lists-number .ensures (a .hold)) ∙ q .if2 .left in
-    pack-refused _ _ (packing-14 _ _ s l (c .if3 .taken)) (omega arith)
+    pack-refused _ _ (packing-14 _ _ s l (omega arith)) (omega arith)
 
 write-record-requires : tie.Need-write-record-requires
 write-record-requires c κs =

@@ -23,7 +23,7 @@ fn sized(
     let d = [0u8; 3];
     let e = [0u8; 3];
     let mut out = [0u8; 35];
-    let done = record::pack(
+    let done = packing::pack(
         hold,
         n,
         &a[..left],
@@ -52,7 +52,7 @@ fn listed(
     rightlayout: &[u8],
 ) -> u16 {
     let mut out = [0u8; 34];
-    let done = record::pack(
+    let done = packing::pack(
         b'N',
         3,
         left,

@@ -1,8 +1,8 @@
 -- `write_record` stores part after part, so that the buffer begins with the record.
-use Rattle.record.proofs.Packed.{stored}
+use Rattle.packing.proofs.Packed.{stored}
 use borrow.Author.Needs.{needs}
-use Rattle.record.proofs.packing.write_record.Statement.{statement}
-use Rattle.record.proofs.packing.write_record.Tie as tie
+use Rattle.packing.proofs.packing.write_record.Statement.{statement}
+use Rattle.packing.proofs.packing.write_record.Tie as tie
 
 sub-m : tie.Need-sub-m
 sub-m c = search needs

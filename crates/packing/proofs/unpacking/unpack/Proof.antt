@@ -2,13 +2,13 @@
 use lib.ListN.{length}
 use mathlib.Core.Path.{refl, sym, ap, subst, _∙_}
 use native.Mathlib.Omega.{arith}
 use Rattle.record.specs.Fields.{Sized}
-use Rattle.record.specs.Refusals.{room}
-use Rattle.record.proofs.Acceptance.{accepted-sized, room-good}
-use Rattle.record.proofs.Outcomes.{unpack-refused, unpack-first, unpack-second, unpack-accepted}
+use Rattle.packing.specs.Refusals.{room}
+use Rattle.record.proofs.Acceptance.{accepted-sized}
+use Rattle.packing.proofs.Unpacked.{room-good, unpack-refused, unpack-first, unpack-second, unpack-accepted}
 use borrow.Author.Needs.{needs}
-use Rattle.record.proofs.unpacking.unpack.Statement.{statement}
-use Rattle.record.proofs.unpacking.unpack.Tie as tie
+use Rattle.packing.proofs.unpacking.unpack.Statement.{statement}
+use Rattle.packing.proofs.unpacking.unpack.Tie as tie
 
 refusal-number-requires : tie.Need-refusal-number-requires
 refusal-number-requires c κs = search needs

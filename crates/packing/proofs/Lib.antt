@@ -1,0 +1,3 @@
+pub mod Unpacked
+pub mod Packed
+pub mod RoundTrip

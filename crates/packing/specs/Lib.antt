@@ -1,0 +1,3 @@
+pub mod Refusals
+pub mod Shapes
+pub mod Calls
