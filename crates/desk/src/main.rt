@@ -1,12 +1,11 @@
 // The desk: any call, typed as a line. Reads lines from standard input, up to 1,048,576 bytes of them, and answers one
 // line for each; `?` to a line that is no call. docs/DESK.md has the language.
-ghost use mathlib.Core.Path.{_≡_};
-ghost use lib.ListN.{length};
 
 mod answering;
 mod changing;
 mod parsing;
 mod parts;
+mod room;
 mod showing;
 mod words;
 
@@ -77,87 +76,53 @@ fn words_after(call: u8) -> usize {
 }
 
 // Answers one line. Its record goes into s, its lists into xs, its layouts into layouts.
-fn answer(
-    line: &[u8],
-    s: &mut [u8],
-    xs: &mut [u16],
-    layouts: &mut [u8],
-    out: &mut [u8],
-    at: usize,
-) -> usize {
+fn answer(line: &[u8], s: &mut [u8], xs: &mut [u16], layouts: &mut [u8]) {
     let call = call_named(word(line, 0));
     if spaces(line) != words_after(call) {
-        return no_call(out, at);
+        return no_call();
     }
     match call {
-        1 => showing::check(line, s, out, at),
-        2 => showing::order(line, s, xs, out, at),
-        3 => showing::count(line, false, s, out, at),
-        4 => showing::count(line, true, s, out, at),
-        5 => showing::entanglement(line, s, out, at),
-        6 => changing::free(line, s, out, at),
-        7 => changing::run(line, s, out, at),
-        8 => changing::hands(line, s, out, at),
-        9 => showing::better(line, false, s, xs, out, at),
-        10 => showing::better(line, true, s, xs, out, at),
-        11 => changing::hold(line, s, out, at),
-        12 => parts::pack(line, s, xs, layouts, out, at),
-        13 => parts::unpack(line, s, xs, layouts, out, at),
-        _ => no_call(out, at),
+        1 => showing::check(line, s),
+        2 => showing::order(line, s, xs),
+        3 => showing::count(line, false, s),
+        4 => showing::count(line, true, s),
+        5 => showing::entanglement(line, s),
+        6 => changing::free(line, s),
+        7 => changing::run(line, s),
+        8 => changing::hands(line, s),
+        9 => showing::better(line, false, s, xs),
+        10 => showing::better(line, true, s, xs),
+        11 => changing::hold(line, s),
+        12 => parts::pack(line, s, xs, layouts),
+        13 => parts::unpack(line, s, xs, layouts),
+        _ => no_call(),
     }
 }
 
 // Answers each line of the input. The last one needs no line feed, unless more input follows than is answered.
-fn answer_all(
-    input: &[u8],
-    s: &mut [u8],
-    xs: &mut [u16],
-    layouts: &mut [u8],
-    out: &mut [u8],
-) -> usize {
-    let mut at = 0;
+fn answer_all(input: &[u8], s: &mut [u8], xs: &mut [u16], layouts: &mut [u8]) {
     let mut from = 0;
     while from < input.len() {
         let to = upto(input, from, b'\n');
         if MOST < input.len() {
             if MOST <= to {
-                return at;
+                return;
             }
         }
-        at = answer(&input[from..to], s, xs, layouts, out, at);
+        answer(&input[from..to], s, xs, layouts);
         if to == input.len() {
-            return at;
+            return;
         }
         from = to + 1;
     }
-    at
 }
 
-// Zeros for the input, with one byte more than is answered.
-fn input_room() -> [u8; 1048577] {
-    [0; 1048577]
-}
-
-// Zeros for the bytes of a word, and for the numbers of a list: a line of 1,048,576 bytes says fewer.
-fn byte_room() -> [u8; 524288]
-    ensures { λ r. ⌜ 524288 ≡ length r ⌝ }
-{
-    [0; 524288]
-}
-
-fn list_room() -> [u16; 524288]
-    ensures { λ r. ⌜ 524288 ≡ length r ⌝ }
-{
-    [0; 524288]
-}
-
+// One byte more than is answered, so that it shows whether more follows.
 fn main() {
-    let mut input = input_room();
+    let mut input = room::for_input();
     let got = io::read_full(0, &mut input);
-    let mut s = byte_room();
-    let mut xs = list_room();
-    let mut layouts = byte_room();
-    let mut out = [0u8; 4096];
-    let at = answer_all(&input[..got], &mut s, &mut xs, &mut layouts, &mut out);
-    printing::flush(&out, at);
+    let mut s = room::for_bytes();
+    let mut xs = room::for_list();
+    let mut layouts = room::for_bytes();
+    answer_all(&input[..got], &mut s, &mut xs, &mut layouts);
 }

@@ -6,25 +6,19 @@ use crate::answering::no_call;
 use crate::parsing::bytes;
 use crate::parsing::list as list_in;
 use crate::parsing::number;
+use crate::room;
 use crate::words::part;
 use crate::words::part_bytes;
 use crate::words::word;
 use packing::unpacking::Unpacked;
 
 // pack HOLD N LEFT RIGHT LINKS LAYOUT LAYOUT OUT -> NUMBER OUT
-pub fn pack(
-    line: &[u8],
-    s: &mut [u8],
-    xs: &mut [u16],
-    layouts: &mut [u8],
-    out: &mut [u8],
-    at: usize,
-) -> usize {
+pub fn pack(line: &[u8], s: &mut [u8], xs: &mut [u16], layouts: &mut [u8]) {
     let m = bytes(word(line, 8), s, 0);
     if s.len() < m {
-        return no_call(out, at);
+        return no_call();
     }
-    pack_lists(line, &mut s[..m], xs, layouts, out, at)
+    pack_lists(line, &mut s[..m], xs, layouts)
 }
 
 // Where three lists end that stand one behind the other.
@@ -45,20 +39,13 @@ fn lists_in(line: &[u8], xs: &mut [u16]) -> Ends {
     }
 }
 
-fn pack_lists(
-    line: &[u8],
-    s: &mut [u8],
-    xs: &mut [u16],
-    layouts: &mut [u8],
-    out: &mut [u8],
-    at: usize,
-) -> usize {
+fn pack_lists(line: &[u8], s: &mut [u8], xs: &mut [u16], layouts: &mut [u8]) {
     let ends = lists_in(line, xs);
     let a = ends.left;
     let b = ends.right;
     let c = ends.links;
     if xs.len() < c {
-        return no_call(out, at);
+        return no_call();
     }
     pack_layouts(
         line,
@@ -67,8 +54,6 @@ fn pack_lists(
         part(xs, a, b),
         part(xs, b, c),
         layouts,
-        out,
-        at,
     )
 }
 
@@ -79,13 +64,11 @@ fn pack_layouts(
     right: &[u16],
     links: &[u16],
     layouts: &mut [u8],
-    out: &mut [u8],
-    at: usize,
-) -> usize {
+) {
     let d = bytes(word(line, 6), layouts, 0);
     let e = bytes(word(line, 7), layouts, d);
     if layouts.len() < e {
-        return no_call(out, at);
+        return no_call();
     }
     pack_all(
         line,
@@ -95,8 +78,6 @@ fn pack_layouts(
         links,
         part_bytes(layouts, 0, d),
         part_bytes(layouts, d, e),
-        out,
-        at,
     )
 }
 
@@ -108,16 +89,14 @@ fn pack_all(
     links: &[u16],
     leftlayout: &[u8],
     rightlayout: &[u8],
-    out: &mut [u8],
-    at: usize,
-) -> usize {
+) {
     let hold = number(word(line, 1), 255);
     if 255 < hold {
-        return no_call(out, at);
+        return no_call();
     }
     let n = number(word(line, 2), 65535);
     if 65535 < n {
-        return no_call(out, at);
+        return no_call();
     }
     let done = packing::pack(
         hold as u8,
@@ -129,81 +108,52 @@ fn pack_all(
         rightlayout,
         s,
     );
-    let i = printing::entry(out, at, done.number);
-    let k = next_bytes(out, i, s);
-    printing::end(out, k)
+    printing::entry(done.number);
+    next_bytes(s);
+    printing::end();
 }
 
 // NUMBER HOLD N
-fn heading(out: &mut [u8], at: usize, answer: Unpacked) -> usize {
+fn heading(answer: Unpacked) {
     let refusal = answer.refusal;
-    let i = printing::entry(out, at, refusal.number);
-    let j = printing::next(out, i, answer.hold as u32);
-    printing::next_entry(out, j, answer.n)
+    printing::entry(refusal.number);
+    printing::next(answer.hold as u32);
+    printing::next_entry(answer.n)
 }
 
 // unpack RECORD LEFT RIGHT LINKS LAYOUT LAYOUT -> NUMBER HOLD N LEFT RIGHT LINKS LAYOUT LAYOUT
-pub fn unpack(
-    line: &[u8],
-    s: &mut [u8],
-    xs: &mut [u16],
-    layouts: &mut [u8],
-    out: &mut [u8],
-    at: usize,
-) -> usize {
+pub fn unpack(line: &[u8], s: &mut [u8], xs: &mut [u16], layouts: &mut [u8]) {
     let m = bytes(word(line, 1), s, 0);
     if s.len() < m {
-        return no_call(out, at);
+        return no_call();
     }
-    unpack_left(line, &s[..m], xs, layouts, out, at)
+    unpack_left(line, &s[..m], xs, layouts)
 }
 
-fn unpack_left(
-    line: &[u8],
-    s: &[u8],
-    xs: &mut [u16],
-    layouts: &mut [u8],
-    out: &mut [u8],
-    at: usize,
-) -> usize {
+fn unpack_left(line: &[u8], s: &[u8], xs: &mut [u16], layouts: &mut [u8]) {
     let n = list_in(word(line, 2), xs, 0);
     if xs.len() < n {
-        return no_call(out, at);
+        return no_call();
     }
-    unpack_right(line, s, &mut xs[..n], layouts, out, at)
+    unpack_right(line, s, &mut xs[..n], layouts)
 }
 
-fn unpack_right(
-    line: &[u8],
-    s: &[u8],
-    left: &mut [u16],
-    layouts: &mut [u8],
-    out: &mut [u8],
-    at: usize,
-) -> usize {
-    let mut xs = [0u16; 524288];
+fn unpack_right(line: &[u8], s: &[u8], left: &mut [u16], layouts: &mut [u8]) {
+    let mut xs = room::for_list();
     let n = list_in(word(line, 3), &mut xs, 0);
     if 524288 < n {
-        return no_call(out, at);
+        return no_call();
     }
-    unpack_links(line, s, left, &mut xs[..n], layouts, out, at)
+    unpack_links(line, s, left, &mut xs[..n], layouts)
 }
 
-fn unpack_links(
-    line: &[u8],
-    s: &[u8],
-    left: &mut [u16],
-    right: &mut [u16],
-    layouts: &mut [u8],
-    out: &mut [u8],
-    at: usize,
-) -> usize {
-    let mut xs = [0u16; 524288];
+fn unpack_links(line: &[u8], s: &[u8], left: &mut [u16], right: &mut [u16], layouts: &mut [u8]) {
+    let mut xs = room::for_list();
     let n = list_in(word(line, 4), &mut xs, 0);
     if 524288 < n {
-        return no_call(out, at);
+        return no_call();
     }
-    unpack_left_layout(line, s, left, right, &mut xs[..n], layouts, out, at)
+    unpack_left_layout(line, s, left, right, &mut xs[..n], layouts)
 }
 
 fn unpack_left_layout(
@@ -213,14 +163,12 @@ fn unpack_left_layout(
     right: &mut [u16],
     links: &mut [u16],
     layouts: &mut [u8],
-    out: &mut [u8],
-    at: usize,
-) -> usize {
+) {
     let n = bytes(word(line, 5), layouts, 0);
     if layouts.len() < n {
-        return no_call(out, at);
+        return no_call();
     }
-    unpack_right_layout(line, s, left, right, links, &mut layouts[..n], out, at)
+    unpack_right_layout(line, s, left, right, links, &mut layouts[..n])
 }
 
 fn unpack_right_layout(
@@ -230,15 +178,13 @@ fn unpack_right_layout(
     right: &mut [u16],
     links: &mut [u16],
     leftlayout: &mut [u8],
-    out: &mut [u8],
-    at: usize,
-) -> usize {
-    let mut layout = [0u8; 524288];
+) {
+    let mut layout = room::for_bytes();
     let n = bytes(word(line, 6), &mut layout, 0);
     if 524288 < n {
-        return no_call(out, at);
+        return no_call();
     }
-    unpack_all(s, left, right, links, leftlayout, &mut layout[..n], out, at)
+    unpack_all(s, left, right, links, leftlayout, &mut layout[..n])
 }
 
 fn unpack_all(
@@ -248,11 +194,9 @@ fn unpack_all(
     links: &mut [u16],
     leftlayout: &mut [u8],
     rightlayout: &mut [u8],
-    out: &mut [u8],
-    at: usize,
-) -> usize {
+) {
     let answer = packing::unpack(s, left, right, links, leftlayout, rightlayout);
-    unpacked(answer, left, right, links, leftlayout, rightlayout, out, at)
+    unpacked(answer, left, right, links, leftlayout, rightlayout)
 }
 
 fn unpacked(
@@ -262,14 +206,12 @@ fn unpacked(
     links: &[u16],
     leftlayout: &[u8],
     rightlayout: &[u8],
-    out: &mut [u8],
-    at: usize,
-) -> usize {
-    let f = heading(out, at, answer);
-    let g = next_list(out, f, left);
-    let h = next_list(out, g, right);
-    let i = next_list(out, h, links);
-    let j = next_bytes(out, i, leftlayout);
-    let k = next_bytes(out, j, rightlayout);
-    printing::end(out, k)
+) {
+    heading(answer);
+    next_list(left);
+    next_list(right);
+    next_list(links);
+    next_bytes(leftlayout);
+    next_bytes(rightlayout);
+    printing::end();
 }

@@ -1,71 +1,37 @@
-// Text for standard output, gathered in a lent buffer that is written whenever it is full. Each function puts its text
-// behind the buffer's first `at` bytes and answers where the text ends now; `flush` writes what is left.
-ghost use mathlib.Core.Path.{_≡_};
-ghost use Prim.Native.Nat.{_≤_};
-ghost use lib.ListN.{length};
-
-// Writes the buffer's first `at` bytes, all of them where `at` is more, and answers 0: the buffer is free again.
-pub fn flush(out: &[u8], at: usize) -> usize
-    ensures { λ r. ⌜ r ≡ 0 ⌝ }
-{
-    if at < out.len() {
-        io::write_all(1, &out[..at]);
-    } else {
-        io::write_all(1, out);
-    }
-    0
-}
-
-// One byte. A buffer without places takes none.
-pub fn byte(out: &mut [u8], at: usize, x: u8) -> usize
-    ensures { λ r. ⌜ r ≤ length (now (out .entry)) ⌝ }
-{
-    if at < out.len() {
-        out[at] = x;
-        return at + 1;
-    }
-    if out.len() == 0 {
-        return 0;
-    }
-    flush(out, at);
-    out[0] = x;
-    1
-}
+// Text on standard output, written at once. What cannot be written is lost: a program has nobody to tell.
 
 // The bytes of s.
-pub fn text(out: &mut [u8], at: usize, s: &[u8]) -> usize {
-    let mut k = at;
-    let mut i = 0;
-    while i < s.len() {
-        k = byte(out, k, s[i]);
-        i += 1;
-    }
-    k
+pub fn text(s: &[u8]) {
+    io::write_all(1, s);
+}
+
+// One byte.
+pub fn byte(x: u8) {
+    let s = [x; 1];
+    io::write_all(1, &s);
 }
 
 // A number in decimal digits.
-pub fn number(out: &mut [u8], at: usize, x: u32) -> usize {
-    let mut digits = [0u8; 20];
-    let k = io::decimal(x as u64, &mut digits);
-    text(out, at, &digits[..k])
+pub fn number(x: u32) {
+    io::print_decimal(1, x as u64);
 }
 
 // A space, and a number in decimal digits.
-pub fn next(out: &mut [u8], at: usize, x: u32) -> usize {
-    let k = byte(out, at, b' ');
-    number(out, k, x)
+pub fn next(x: u32) {
+    io::write_all(1, b" ");
+    number(x);
 }
 
-// An entry of a list, as `number` and `next` put numbers.
-pub fn entry(out: &mut [u8], at: usize, x: u16) -> usize {
-    number(out, at, x as u32)
+// An entry of a list, as `number` and `next` write numbers.
+pub fn entry(x: u16) {
+    number(x as u32);
 }
 
-pub fn next_entry(out: &mut [u8], at: usize, x: u16) -> usize {
-    next(out, at, x as u32)
+pub fn next_entry(x: u16) {
+    next(x as u32);
 }
 
 // A line feed.
-pub fn end(out: &mut [u8], at: usize) -> usize {
-    byte(out, at, b'\n')
+pub fn end() {
+    io::write_all(1, b"\n");
 }

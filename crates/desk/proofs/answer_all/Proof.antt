@@ -9,10 +9,10 @@ use Rattle.desk.proofs.answer_all.Statement.{statement}
 use Rattle.desk.proofs.answer_all.Tie as tie
 
 abbrev Inv-loop : tie.InvT-loop
-Inv-loop input s₀ xs₀ layouts₀ out₀ at₀ from₀ s xs layouts out at from = (from ≤ length input) × ((length s ≡ length s₀) × ((length xs ≡ length xs₀) × ((length layouts ≡ length layouts₀) × (length out ≡ length out₀))))
+Inv-loop input s₀ xs₀ layouts₀ from₀ s xs layouts from = (from ≤ length input) × ((length s ≡ length s₀) × ((length xs ≡ length xs₀) × (length layouts ≡ length layouts₀)))
 
 abbrev μ-loop : tie.MeasureT-loop
-μ-loop input s₀ xs₀ layouts₀ out₀ at₀ from₀ s xs layouts out at from = length input - from
+μ-loop input s₀ xs₀ layouts₀ from₀ s xs layouts from = length input - from
 
 loop-holds : tie.Need-loop-holds Inv-loop μ-loop
 loop-holds c = search needs
@@ -29,9 +29,6 @@ same-length-2 c = search needs
 same-length-3 : tie.Need-same-length-3 Inv-loop μ-loop
 same-length-3 c = search needs
 
-same-length-4 : tie.Need-same-length-4 Inv-loop μ-loop
-same-length-4 c = search needs
-
 returns : tie.Need-returns Inv-loop μ-loop
 returns c = search needs
 
@@ -47,17 +44,14 @@ part-answer-end c = search needs
 answer-requires : tie.Need-answer-requires Inv-loop μ-loop
 answer-requires c κs = search needs
 
+same-length-4 : tie.Need-same-length-4 Inv-loop μ-loop
+same-length-4 c = search needs
+
 same-length-5 : tie.Need-same-length-5 Inv-loop μ-loop
 same-length-5 c = search needs
 
 same-length-6 : tie.Need-same-length-6 Inv-loop μ-loop
 same-length-6 c = search needs
-
-same-length-7 : tie.Need-same-length-7 Inv-loop μ-loop
-same-length-7 c = search needs
-
-same-length-8 : tie.Need-same-length-8 Inv-loop μ-loop
-same-length-8 c = search needs
 
 returns-2 : tie.Need-returns-2 Inv-loop μ-loop
 returns-2 c = search needs
@@ -71,17 +65,14 @@ loop-less c = search needs
 loop-again : tie.Need-loop-again Inv-loop μ-loop
 loop-again c = search needs
 
+same-length-7 : tie.Need-same-length-7 Inv-loop μ-loop
+same-length-7 c = search needs
+
+same-length-8 : tie.Need-same-length-8 Inv-loop μ-loop
+same-length-8 c = search needs
+
 same-length-9 : tie.Need-same-length-9 Inv-loop μ-loop
 same-length-9 c = search needs
-
-same-length-10 : tie.Need-same-length-10 Inv-loop μ-loop
-same-length-10 c = search needs
-
-same-length-11 : tie.Need-same-length-11 Inv-loop μ-loop
-same-length-11 c = search needs
-
-same-length-12 : tie.Need-same-length-12 Inv-loop μ-loop
-same-length-12 c = search needs
 
 returns-3 : tie.Need-returns-3 Inv-loop μ-loop
 returns-3 c = search needs
@@ -97,22 +88,19 @@ answer-all-spec =
     same-length
     same-length-2
     same-length-3
-    same-length-4
     returns
     sub-answer
     part-answer-start
     part-answer-end
     answer-requires
+    same-length-4
     same-length-5
     same-length-6
-    same-length-7
-    same-length-8
     returns-2
     add-from
     loop-less
     loop-again
+    same-length-7
+    same-length-8
     same-length-9
-    same-length-10
-    same-length-11
-    same-length-12
     returns-3)

@@ -1,15 +1,14 @@
 use borrow.Author.Needs.{needs}
 use Prim.Native.Nat.{_-_, _≤_}
-use mathlib.Core.Path.{_≡_}
 use lib.ListN.{length}
 use Rattle.sheet.proofs.entries.Statement.{statement}
 use Rattle.sheet.proofs.entries.Tie as tie
 
 abbrev Inv-loop : tie.InvT-loop
-Inv-loop out₀ at letter order k₀ i₀ out k i = (i ≤ length order) × (length out ≡ length out₀)
+Inv-loop letter order i₀ i = i ≤ length order
 
 abbrev μ-loop : tie.MeasureT-loop
-μ-loop out₀ at letter order k₀ i₀ out k i = length order - i
+μ-loop letter order i₀ i = length order - i
 
 byte-requires : tie.Need-byte-requires Inv-loop μ-loop
 byte-requires c κs = search needs
@@ -38,9 +37,6 @@ loop-again c = search needs
 end-requires : tie.Need-end-requires Inv-loop μ-loop
 end-requires c κs = search needs
 
-same-length : tie.Need-same-length Inv-loop μ-loop
-same-length c = search needs
-
 returns : tie.Need-returns Inv-loop μ-loop
 returns c = search needs
 
@@ -59,5 +55,4 @@ entries-spec =
     loop-less
     loop-again
     end-requires
-    same-length
     returns)

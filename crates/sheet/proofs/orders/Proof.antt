@@ -1,7 +1,6 @@
-use mathlib.Core.Path.{sym}
 use native.Mathlib.Omega.{arith}
+use mathlib.Core.Path.{sym}
 use lib.Seq.{length-take-le}
-use lib.ListN.{length}
 use borrow.Author.Needs.{needs}
 use Rattle.sheet.proofs.orders.Statement.{statement}
 use Rattle.sheet.proofs.orders.Tie as tie
@@ -39,9 +38,6 @@ slice-aggregate-entries-2 c = sym (length-take-le _ _ (omega arith))
 entries-requires-2 : tie.Need-entries-requires-2
 entries-requires-2 c κs = search needs
 
-same-length : tie.Need-same-length
-same-length c = search needs
-
 returns-2 : tie.Need-returns-2
 returns-2 c = search needs
 
@@ -60,5 +56,4 @@ orders-spec =
     array-share-prefix-order-2
     slice-aggregate-entries-2
     entries-requires-2
-    same-length
     returns-2)

@@ -1,21 +1,17 @@
 use borrow.Author.Needs.{needs}
 use Prim.Native.Nat.{_-_, _≤_}
-use mathlib.Core.Path.{_≡_}
 use lib.ListN.{length}
 use Rattle.desk.proofs.answering.list.Statement.{statement}
 use Rattle.desk.proofs.answering.list.Tie as tie
 
 abbrev Inv-loop : tie.InvT-loop
-Inv-loop out₀ at xs k₀ i₀ out k i = (i ≤ length xs) × (length out ≡ length out₀)
+Inv-loop xs i₀ i = i ≤ length xs
 
 abbrev μ-loop : tie.MeasureT-loop
-μ-loop out₀ at xs k₀ i₀ out k i = length xs - i
+μ-loop xs i₀ i = length xs - i
 
 byte-requires : tie.Need-byte-requires Inv-loop μ-loop
 byte-requires c κs = search needs
-
-same-length : tie.Need-same-length Inv-loop μ-loop
-same-length c = search needs
 
 returns : tie.Need-returns Inv-loop μ-loop
 returns c = search needs
@@ -50,9 +46,6 @@ loop-less c = search needs
 loop-again : tie.Need-loop-again Inv-loop μ-loop
 loop-again c = search needs
 
-same-length-2 : tie.Need-same-length-2 Inv-loop μ-loop
-same-length-2 c = search needs
-
 returns-2 : tie.Need-returns-2 Inv-loop μ-loop
 returns-2 c = search needs
 
@@ -63,7 +56,6 @@ list-spec =
     Inv-loop
     μ-loop
     byte-requires
-    same-length
     returns
     shared-slice-read-entry
     entry-requires
@@ -75,5 +67,4 @@ list-spec =
     add-i
     loop-less
     loop-again
-    same-length-2
     returns-2)

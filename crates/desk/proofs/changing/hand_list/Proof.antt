@@ -1,15 +1,13 @@
+use lib.ListN.{length}
+use native.Mathlib.Omega.{arith}
 use mathlib.Core.Path.{sym}
 use lib.Seq.{length-take-le}
-use native.Mathlib.Omega.{arith}
 use borrow.Author.Needs.{needs}
 use Rattle.desk.proofs.changing.hand_list.Statement.{statement}
 use Rattle.desk.proofs.changing.hand_list.Tie as tie
-use Rattle.desk.proofs.changing.hand_list.Reads as reads
-use Rattle.desk.proofs.changing.hand_list.Lts as lts
-use Rattle.desk.proofs.answering.no_call.Reads as no-call-reads
-use Rattle.desk.proofs.changing.handed.Reads as handed-reads
-use Rattle.desk.proofs.parsing.hands.Reads as hands-reads
-use Rattle.desk.proofs.words.word.Reads as word-reads
+
+for-hands-requires : tie.Need-for-hands-requires
+for-hands-requires c κs = search needs
 
 word-requires : tie.Need-word-requires
 word-requires c κs = search needs
@@ -23,9 +21,6 @@ hands-requires c κs = search needs
 no-call-requires : tie.Need-no-call-requires
 no-call-requires c κs = search needs
 
-same-length : tie.Need-same-length
-same-length c = search needs
-
 returns : tie.Need-returns
 returns c = search needs
 
@@ -38,11 +33,8 @@ slice-aggregate-handed c = sym (length-take-le _ _ (omega arith))
 handed-requires : tie.Need-handed-requires
 handed-requires c κs = search needs
 
-same-length-2 : tie.Need-same-length-2
-same-length-2 c = search needs
-
-same-length-3 : tie.Need-same-length-3
-same-length-3 c = search needs
+same-length : tie.Need-same-length
+same-length c = search needs
 
 returns-2 : tie.Need-returns-2
 returns-2 c = search needs
@@ -51,15 +43,14 @@ pub hand-list-spec : {M : Type 1} → statement M
 hand-list-spec =
     tie.close
     (tie.spec
+    for-hands-requires
     word-requires
     slice-aggregate-hands
     hands-requires
     no-call-requires
-    same-length
     returns
     array-share-prefix-xs
     slice-aggregate-handed
     handed-requires
-    same-length-2
-    same-length-3
+    same-length
     returns-2)

@@ -1,15 +1,10 @@
+use lib.ListN.{length}
+use native.Mathlib.Omega.{arith}
 use mathlib.Core.Path.{sym}
 use lib.Seq.{length-take-le}
-use native.Mathlib.Omega.{arith}
 use borrow.Author.Needs.{needs}
 use Rattle.desk.proofs.changing.hands.Statement.{statement}
 use Rattle.desk.proofs.changing.hands.Tie as tie
-use Rattle.desk.proofs.changing.hands.Reads as reads
-use Rattle.desk.proofs.changing.hands.Lts as lts
-use Rattle.desk.proofs.answering.no_call.Reads as no-call-reads
-use Rattle.desk.proofs.changing.hand_list.Reads as hand-list-reads
-use Rattle.desk.proofs.parsing.bytes.Reads as bytes-reads
-use Rattle.desk.proofs.words.word.Reads as word-reads
 
 word-requires : tie.Need-word-requires
 word-requires c κs = search needs
@@ -23,9 +18,6 @@ no-call-requires c κs = search needs
 same-length : tie.Need-same-length
 same-length c = search needs
 
-same-length-2 : tie.Need-same-length-2
-same-length-2 c = search needs
-
 returns : tie.Need-returns
 returns c = search needs
 
@@ -38,11 +30,8 @@ slice-aggregate-hand-list c = sym (length-take-le _ _ (omega arith))
 hand-list-requires : tie.Need-hand-list-requires
 hand-list-requires c κs = search needs
 
-same-length-3 : tie.Need-same-length-3
-same-length-3 c = search needs
-
-same-length-4 : tie.Need-same-length-4
-same-length-4 c = search needs
+same-length-2 : tie.Need-same-length-2
+same-length-2 c = search needs
 
 returns-2 : tie.Need-returns-2
 returns-2 c = search needs
@@ -55,11 +44,9 @@ hands-spec =
     bytes-requires
     no-call-requires
     same-length
-    same-length-2
     returns
     slice-relend-prefix-hand-list
     slice-aggregate-hand-list
     hand-list-requires
-    same-length-3
-    same-length-4
+    same-length-2
     returns-2)

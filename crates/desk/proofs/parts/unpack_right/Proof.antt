@@ -1,15 +1,13 @@
+use lib.ListN.{length}
 use native.Mathlib.Omega.{arith}
 use mathlib.Core.Path.{sym}
 use lib.Seq.{length-take-le}
 use borrow.Author.Needs.{needs}
 use Rattle.desk.proofs.parts.unpack_right.Statement.{statement}
 use Rattle.desk.proofs.parts.unpack_right.Tie as tie
-use Rattle.desk.proofs.parts.unpack_right.Reads as reads
-use Rattle.desk.proofs.parts.unpack_right.Lts as lts
-use Rattle.desk.proofs.answering.no_call.Reads as no-call-reads
-use Rattle.desk.proofs.parsing.list.Reads as list-reads
-use Rattle.desk.proofs.parts.unpack_links.Reads as unpack-links-reads
-use Rattle.desk.proofs.words.word.Reads as word-reads
+
+for-list-requires : tie.Need-for-list-requires
+for-list-requires c κs = search needs
 
 word-requires : tie.Need-word-requires
 word-requires c κs = search needs
@@ -23,14 +21,11 @@ list-requires c κs = search needs
 no-call-requires : tie.Need-no-call-requires
 no-call-requires c κs = search needs
 
-same-length : tie.Need-same-length
-same-length c = search needs
-
 returns : tie.Need-returns
 returns c = search needs
 
 array-borrow-prefix-xs : tie.Need-array-borrow-prefix-xs
-array-borrow-prefix-xs c = omega arith
+array-borrow-prefix-xs c = search needs
 
 slice-aggregate-unpack-links : tie.Need-slice-aggregate-unpack-links
 slice-aggregate-unpack-links c = sym (length-take-le _ _ (omega arith))
@@ -38,14 +33,11 @@ slice-aggregate-unpack-links c = sym (length-take-le _ _ (omega arith))
 unpack-links-requires : tie.Need-unpack-links-requires
 unpack-links-requires c κs = search needs
 
+same-length : tie.Need-same-length
+same-length c = search needs
+
 same-length-2 : tie.Need-same-length-2
 same-length-2 c = search needs
-
-same-length-3 : tie.Need-same-length-3
-same-length-3 c = search needs
-
-same-length-4 : tie.Need-same-length-4
-same-length-4 c = search needs
 
 returns-2 : tie.Need-returns-2
 returns-2 c = search needs
@@ -54,16 +46,15 @@ pub unpack-right-spec : {M : Type 1} → statement M
 unpack-right-spec =
     tie.close
     (tie.spec
+    for-list-requires
     word-requires
     slice-aggregate-list
     list-requires
     no-call-requires
-    same-length
     returns
     array-borrow-prefix-xs
     slice-aggregate-unpack-links
     unpack-links-requires
+    same-length
     same-length-2
-    same-length-3
-    same-length-4
     returns-2)

@@ -1,7 +1,7 @@
-use mathlib.Core.Path.{sym}
-use native.Mathlib.Omega.{arith}
-use lib.Seq.{length-take-le}
 use lib.ListN.{length}
+use native.Mathlib.Omega.{arith}
+use mathlib.Core.Path.{sym}
+use lib.Seq.{length-take-le}
 use borrow.Author.Needs.{needs}
 use Rattle.desk.proofs.showing.count.Statement.{statement}
 use Rattle.desk.proofs.showing.count.Tie as tie
@@ -17,9 +17,6 @@ no-call-requires c κs = search needs
 
 same-length : tie.Need-same-length
 same-length c = search needs
-
-same-length-2 : tie.Need-same-length-2
-same-length-2 c = search needs
 
 returns : tie.Need-returns
 returns c = search needs
@@ -42,11 +39,8 @@ next-requires c κs = search needs
 end-requires : tie.Need-end-requires
 end-requires c κs = search needs
 
-same-length-3 : tie.Need-same-length-3
-same-length-3 c = search needs
-
-same-length-4 : tie.Need-same-length-4
-same-length-4 c = search needs
+same-length-2 : tie.Need-same-length-2
+same-length-2 c = search needs
 
 returns-2 : tie.Need-returns-2
 returns-2 c = search needs
@@ -59,7 +53,6 @@ count-spec =
     bytes-requires
     no-call-requires
     same-length
-    same-length-2
     returns
     slice-reshare-prefix-counted
     slice-aggregate-counted
@@ -67,6 +60,5 @@ count-spec =
     entry-requires
     next-requires
     end-requires
-    same-length-3
-    same-length-4
+    same-length-2
     returns-2)

@@ -1,7 +1,7 @@
-use mathlib.Core.Path.{sym}
-use native.Mathlib.Omega.{arith}
-use lib.Seq.{length-take-le}
 use lib.ListN.{length}
+use native.Mathlib.Omega.{arith}
+use mathlib.Core.Path.{sym}
+use lib.Seq.{length-take-le}
 use borrow.Author.Needs.{needs}
 use Rattle.desk.proofs.showing.entanglement.Statement.{statement}
 use Rattle.desk.proofs.showing.entanglement.Tie as tie
@@ -17,9 +17,6 @@ no-call-requires c κs = search needs
 
 same-length : tie.Need-same-length
 same-length c = search needs
-
-same-length-2 : tie.Need-same-length-2
-same-length-2 c = search needs
 
 returns : tie.Need-returns
 returns c = search needs
@@ -51,29 +48,20 @@ enum-known-refusal c = search needs
 no-ratio-requires-2 : tie.Need-no-ratio-requires-2
 no-ratio-requires-2 c κs = search needs
 
-same-length-3 : tie.Need-same-length-3
-same-length-3 c = search needs
-
-same-length-4 : tie.Need-same-length-4
-same-length-4 c = search needs
+same-length-2 : tie.Need-same-length-2
+same-length-2 c = search needs
 
 returns-2 : tie.Need-returns-2
 returns-2 c = search needs
 
-same-length-5 : tie.Need-same-length-5
-same-length-5 c = search needs
-
-same-length-6 : tie.Need-same-length-6
-same-length-6 c = search needs
+same-length-3 : tie.Need-same-length-3
+same-length-3 c = search needs
 
 returns-3 : tie.Need-returns-3
 returns-3 c = search needs
 
-same-length-7 : tie.Need-same-length-7
-same-length-7 c = search needs
-
-same-length-8 : tie.Need-same-length-8
-same-length-8 c = search needs
+same-length-4 : tie.Need-same-length-4
+same-length-4 c = search needs
 
 returns-4 : tie.Need-returns-4
 returns-4 c = search needs
@@ -86,7 +74,6 @@ entanglement-spec =
     bytes-requires
     no-call-requires
     same-length
-    same-length-2
     returns
     slice-reshare-prefix-entanglement
     slice-aggregate-entanglement
@@ -97,12 +84,9 @@ entanglement-spec =
     no-ratio-requires
     enum-known-refusal
     no-ratio-requires-2
-    same-length-3
-    same-length-4
+    same-length-2
     returns-2
-    same-length-5
-    same-length-6
+    same-length-3
     returns-3
-    same-length-7
-    same-length-8
+    same-length-4
     returns-4)

@@ -1,17 +1,10 @@
+use lib.ListN.{length}
 use native.Mathlib.Omega.{arith}
 use mathlib.Core.Path.{sym}
 use lib.Seq.{length-take-le}
 use borrow.Author.Needs.{needs}
 use Rattle.desk.proofs.showing.order.Statement.{statement}
 use Rattle.desk.proofs.showing.order.Tie as tie
-use Rattle.desk.proofs.showing.order.Reads as reads
-use Rattle.desk.proofs.showing.order.Lts as lts
-use Rattle.desk.proofs.answering.no_call.Reads as no-call-reads
-use Rattle.desk.proofs.parsing.bytes.Reads as bytes-reads
-use Rattle.desk.proofs.parsing.list.Reads as list-reads
-use Rattle.desk.proofs.parsing.number.Reads as number-reads
-use Rattle.desk.proofs.showing.ordered.Reads as ordered-reads
-use Rattle.desk.proofs.words.word.Reads as word-reads
 
 word-requires : tie.Need-word-requires
 word-requires c κs = search needs
@@ -25,9 +18,6 @@ no-call-requires c κs = search needs
 same-length : tie.Need-same-length
 same-length c = search needs
 
-same-length-2 : tie.Need-same-length-2
-same-length-2 c = search needs
-
 returns : tie.Need-returns
 returns c = search needs
 
@@ -40,11 +30,8 @@ number-requires c κs = search needs
 no-call-requires-2 : tie.Need-no-call-requires-2
 no-call-requires-2 c κs = search needs
 
-same-length-3 : tie.Need-same-length-3
-same-length-3 c = search needs
-
-same-length-4 : tie.Need-same-length-4
-same-length-4 c = search needs
+same-length-2 : tie.Need-same-length-2
+same-length-2 c = search needs
 
 returns-2 : tie.Need-returns-2
 returns-2 c = search needs
@@ -58,14 +45,11 @@ list-requires c κs = search needs
 no-call-requires-3 : tie.Need-no-call-requires-3
 no-call-requires-3 c κs = search needs
 
-same-length-5 : tie.Need-same-length-5
-same-length-5 c = search needs
+same-length-3 : tie.Need-same-length-3
+same-length-3 c = search needs
 
-same-length-6 : tie.Need-same-length-6
-same-length-6 c = search needs
-
-same-length-7 : tie.Need-same-length-7
-same-length-7 c = search needs
+same-length-4 : tie.Need-same-length-4
+same-length-4 c = search needs
 
 returns-3 : tie.Need-returns-3
 returns-3 c = search needs
@@ -88,14 +72,11 @@ slice-aggregate-ordered-2 c = sym (length-take-le _ _ (omega arith))
 ordered-requires : tie.Need-ordered-requires
 ordered-requires c κs = search needs
 
-same-length-8 : tie.Need-same-length-8
-same-length-8 c = search needs
+same-length-5 : tie.Need-same-length-5
+same-length-5 c = search needs
 
-same-length-9 : tie.Need-same-length-9
-same-length-9 c = search needs
-
-same-length-10 : tie.Need-same-length-10
-same-length-10 c = search needs
+same-length-6 : tie.Need-same-length-6
+same-length-6 c = search needs
 
 returns-4 : tie.Need-returns-4
 returns-4 c = search needs
@@ -108,20 +89,17 @@ order-spec =
     bytes-requires
     no-call-requires
     same-length
-    same-length-2
     returns
     word-requires-2
     number-requires
     no-call-requires-2
-    same-length-3
-    same-length-4
+    same-length-2
     returns-2
     word-requires-3
     list-requires
     no-call-requires-3
-    same-length-5
-    same-length-6
-    same-length-7
+    same-length-3
+    same-length-4
     returns-3
     slice-reshare-prefix-ordered
     slice-aggregate-ordered
@@ -129,7 +107,6 @@ order-spec =
     slice-relend-prefix-ordered
     slice-aggregate-ordered-2
     ordered-requires
-    same-length-8
-    same-length-9
-    same-length-10
+    same-length-5
+    same-length-6
     returns-4)
