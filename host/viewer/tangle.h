@@ -1,8 +1,8 @@
 /* The comparison table's calls for C (crates/viewer, target/staticlib/libviewer.a).
  *
- * A record is lent as a pointer and a length in bytes; any bytes may be lent. The caller sees to this only: each pointer
- * is to memory of that length, not null even where the length is 0, and what one call may change nothing else reads or
- * changes during the call. Nothing is kept after it.
+ * A record is lent as a pointer and a length in bytes; any bytes may be lent. The caller sees to this only: each
+ * pointer is to memory of that length, not null even where the length is 0, and what one call may change nothing else
+ * reads or changes during the call. Nothing is kept after it.
  *
  * Each call answers a struct of numbers by value, the refusal first: 0, or the number of the first test that failed, in
  * the order given with the call. A refused call answers zero for every other number and leaves every byte as found. One
@@ -33,7 +33,8 @@ enum tangle_refusal {
     TANGLE_RIGHT_ROW = 8,  /* a right row breaks the tree rule */
     TANGLE_LINKS = 9,      /* the links aren't one-to-one on 1 to n */
     TANGLE_LAYOUT = 10,    /* a layout byte isn't 0 or 1 */
-    TANGLE_HELD = 11,      /* a held side is freed, a side is held in a run, or a hand entry is for a held side */
+    TANGLE_HELD = 11,      /* the call frees a held side, runs while a side is held, or has a hand entry for a held
+                              side, even if no byte would end up different */
     TANGLE_ALLOWANCE = 12, /* the allowance is 0 or above 130,818 */
     TANGLE_SIDE = 13,      /* the side isn't 1 (left) or 2 (right) */
     TANGLE_ROW = 15,       /* the row is 0 or above n-1 */

@@ -15,9 +15,10 @@ _Static_assert(offsetof(struct tangle_entanglement, ratio) == 16, "the double is
 _Static_assert(sizeof(struct tangle_hands) == 4, "one");
 _Static_assert(sizeof(struct tangle_entry) == 4 && offsetof(struct tangle_entry, row) == 2, "two numbers of 16 bits");
 _Static_assert(TANGLE_ACCEPTED == 0 && TANGLE_SHORT == 1 && TANGLE_MARK == 2 && TANGLE_VERSION == 3, "01");
-_Static_assert(TANGLE_HOLD == 4 && TANGLE_SIZE == 5 && TANGLE_LENGTH == 6 && TANGLE_LEFT_ROW == 7 && TANGLE_RIGHT_ROW == 8, "01");
-_Static_assert(TANGLE_LINKS == 9 && TANGLE_LAYOUT == 10 && TANGLE_HELD == 11 && TANGLE_ALLOWANCE == 12, "01");
-_Static_assert(TANGLE_SIDE == 13 && TANGLE_ROW == 15 && TANGLE_HANDS == 17, "01");
+_Static_assert(TANGLE_HOLD == 4 && TANGLE_SIZE == 5 && TANGLE_LENGTH == 6 && TANGLE_LEFT_ROW == 7, "01");
+_Static_assert(TANGLE_RIGHT_ROW == 8 && TANGLE_LINKS == 9 && TANGLE_LAYOUT == 10, "01");
+_Static_assert(TANGLE_HELD == 11 && TANGLE_ALLOWANCE == 12 && TANGLE_SIDE == 13, "01");
+_Static_assert(TANGLE_ROW == 15 && TANGLE_HANDS == 17, "01");
 _Static_assert(TANGLE_MOST_BYTES == 6142 && TANGLE_MOST_TURNS == 130818 && TANGLE_MOST_HANDS == 1024, "01");
 
 /* Room for n = 513, and fences before and after what is lent. */

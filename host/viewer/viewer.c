@@ -32,7 +32,8 @@ static const char *words(uint32_t refusal)
     case TANGLE_RIGHT_ROW: return "a right row breaks the tree rule";
     case TANGLE_LINKS: return "links aren't one-to-one on 1 to n";
     case TANGLE_LAYOUT: return "a layout byte isn't 0 or 1";
-    case TANGLE_HELD: return "a side that would move is held";
+    case TANGLE_HELD:
+        return "the call frees a held side, runs while a side is held, or has a hand entry for a held side";
     case TANGLE_ALLOWANCE: return "allowance 0 or above 130,818";
     case TANGLE_SIDE: return "side isn't 1 (left) or 2 (right)";
     case TANGLE_ROW: return "row 0 or above n-1";
