@@ -1,0 +1,492 @@
+/* Checks the calls for C against document 01: the bench examples, every refusal that a call for C can give, in the
+ * order of tests, and that a refused call changes no byte. Numbers are literals, from the paper or worked out by hand.
+ * Prints each check that failed; ends with 0 only if none did.
+ */
+#include <stdio.h>
+#include <string.h>
+
+#include "tangle.h"
+
+_Static_assert(sizeof(struct tangle_count) == 8, "two numbers of 32 bits");
+_Static_assert(sizeof(struct tangle_free) == 12, "three");
+_Static_assert(sizeof(struct tangle_run) == 20, "five");
+_Static_assert(sizeof(struct tangle_entanglement) == 24, "four, and a double");
+_Static_assert(offsetof(struct tangle_entanglement, ratio) == 16, "the double is last");
+_Static_assert(sizeof(struct tangle_hands) == 4, "one");
+_Static_assert(sizeof(struct tangle_entry) == 4 && offsetof(struct tangle_entry, row) == 2, "two numbers of 16 bits");
+_Static_assert(TANGLE_ACCEPTED == 0 && TANGLE_SHORT == 1 && TANGLE_MARK == 2 && TANGLE_VERSION == 3, "01");
+_Static_assert(TANGLE_HOLD == 4 && TANGLE_SIZE == 5 && TANGLE_LENGTH == 6 && TANGLE_LEFT_ROW == 7, "01");
+_Static_assert(TANGLE_RIGHT_ROW == 8 && TANGLE_LINKS == 9 && TANGLE_LAYOUT == 10, "01");
+_Static_assert(TANGLE_HELD == 11 && TANGLE_ALLOWANCE == 12 && TANGLE_SIDE == 13, "01");
+_Static_assert(TANGLE_ROW == 15 && TANGLE_HANDS == 17, "01");
+_Static_assert(TANGLE_MOST_BYTES == 6142 && TANGLE_MOST_TURNS == 130818 && TANGLE_MOST_HANDS == 1024, "01");
+
+/* Room for n = 513, and fences before and after what is lent. */
+enum { MOST = 12 * 513 - 2, FENCE = 16 };
+
+struct record {
+    size_t length;
+    uint8_t room[FENCE + MOST + FENCE];
+};
+
+static unsigned checks, failures;
+static struct record r, kept;
+
+static void check(int line, const char *what, double got, double expected)
+{
+    checks++;
+    if (got == expected)
+        return;
+    failures++;
+    printf("test.c:%d: %s is %.17g, not %.17g\n", line, what, got, expected);
+}
+
+/* ---- records */
+
+static uint8_t *bytes(void)
+{
+    return r.room + FENCE;
+}
+
+static void put(uint16_t x)
+{
+    bytes()[r.length++] = (uint8_t)(x >> 8);
+    bytes()[r.length++] = (uint8_t)(x & 255);
+}
+
+static void start(char hold, uint16_t n)
+{
+    memset(&r, 0xa5, sizeof r);
+    memcpy(bytes(), "TGP\0\1", 5);
+    bytes()[5] = (uint8_t)hold;
+    r.length = 6;
+    put(n);
+}
+
+static void zeros(size_t count)
+{
+    memset(bytes() + r.length, 0, count);
+    r.length += count;
+}
+
+/* A record over n leaves, with all layout bytes 0: the rows of both sides, and the links. */
+static void record(char hold, uint16_t n, const uint16_t *left, const uint16_t *right, const uint16_t *links)
+{
+    start(hold, n);
+    for (int i = 0; i < 2 * (n - 1); i++)
+        put(left[i]);
+    for (int i = 0; i < 2 * (n - 1); i++)
+        put(right[i]);
+    for (int i = 0; i < n; i++)
+        put(links[i]);
+    zeros(2 * (size_t)(n - 1));
+}
+
+static const uint16_t identity[] = {1, 2, 3, 4};
+static const uint16_t caterpillar[] = {1, 2, 3, 5, 4, 6};
+static const uint16_t balanced[] = {1, 2, 3, 4, 5, 6};
+
+static void case2(char hold)
+{
+    record(hold, 4, caterpillar, balanced, identity);
+}
+
+static void example5(void)
+{
+    static const uint16_t left[] = {1, 2, 4, 3}, right[] = {1, 3, 4, 2};
+    record('N', 3, left, right, identity);
+}
+
+/* n leaves; each row has all leaves before as its upper child and the next leaf as its lower, so that both orders are
+ * 1 to n. The links are the identity, or reversed. */
+static void deep(uint16_t n, int reversed)
+{
+    start('N', n);
+    for (int side = 0; side < 2; side++)
+        for (uint16_t i = 1; i < n; i++) {
+            put(i == 1 ? 1 : (uint16_t)(n + i - 1));
+            put((uint16_t)(i + 1));
+        }
+    for (uint16_t a = 1; a <= n; a++)
+        put(reversed ? (uint16_t)(n + 1 - a) : a);
+    zeros(2 * (size_t)(n - 1));
+}
+
+/* ---- calls; each also checks that a refused call left every byte, and that no call wrote past what it was lent */
+
+static void same_outside(int line)
+{
+    check(line, "a byte before the record changed", memcmp(r.room, kept.room, FENCE) != 0, 0);
+    check(line, "a byte after the record changed",
+          memcmp(bytes() + r.length, kept.room + FENCE + r.length, MOST + FENCE - r.length) != 0, 0);
+}
+
+static void same_bytes(int line, const struct record *as)
+{
+    check(line, "a byte differs", memcmp(r.room, as->room, sizeof r.room) != 0, 0);
+}
+
+static void count(int line, uint32_t refusal, uint32_t expected)
+{
+    struct tangle_count c;
+
+    kept = r;
+    c = tangle_count(bytes(), r.length);
+    check(line, "refusal", c.refusal, refusal);
+    check(line, "count", c.count, expected);
+    same_bytes(line, &kept);
+}
+
+static void free_side(int line, uint16_t side, uint32_t refusal, uint32_t before, uint32_t after)
+{
+    struct tangle_free f;
+
+    kept = r;
+    f = tangle_free(bytes(), r.length, side);
+    check(line, "refusal", f.refusal, refusal);
+    check(line, "before", f.before, before);
+    check(line, "after", f.after, after);
+    same_outside(line);
+    if (refusal != 0)
+        same_bytes(line, &kept);
+}
+
+static void run(int line, uint32_t allowance, uint32_t refusal, uint32_t first, uint32_t last, uint32_t turns,
+                uint32_t settled)
+{
+    struct tangle_run t;
+
+    kept = r;
+    t = tangle_run(bytes(), r.length, allowance);
+    check(line, "refusal", t.refusal, refusal);
+    check(line, "first", t.first, first);
+    check(line, "last", t.last, last);
+    check(line, "turns", t.turns, turns);
+    check(line, "settled", t.settled, settled);
+    same_outside(line);
+    if (refusal != 0)
+        same_bytes(line, &kept);
+}
+
+static void entanglement(int line, uint32_t refusal, uint32_t d, uint32_t w, uint32_t has_ratio, double ratio)
+{
+    struct tangle_entanglement e;
+
+    kept = r;
+    e = tangle_entanglement(bytes(), r.length);
+    check(line, "refusal", e.refusal, refusal);
+    check(line, "displacement", e.displacement, d);
+    check(line, "worst", e.worst, w);
+    check(line, "has_ratio", e.has_ratio, has_ratio);
+    check(line, "ratio", e.ratio, ratio);
+    same_bytes(line, &kept);
+}
+
+static struct tangle_entry list[TANGLE_MOST_HANDS + 1];
+
+static void hands(int line, size_t entries, uint32_t refusal)
+{
+    struct tangle_hands h;
+
+    kept = r;
+    h = tangle_hands(bytes(), r.length, list, entries);
+    check(line, "refusal", h.refusal, refusal);
+    same_outside(line);
+    if (refusal != 0)
+        same_bytes(line, &kept);
+}
+
+static void hand(int line, uint16_t side, uint16_t row, uint32_t refusal)
+{
+    list[0] = (struct tangle_entry){side, row};
+    hands(line, 1, refusal);
+}
+
+/* A record that every call refuses by one number. */
+static void refused(int line, uint32_t number)
+{
+    count(line, number, 0);
+    entanglement(line, number, 0, 0, 0, 0.0);
+    free_side(line, TANGLE_LEFT, number, 0, 0);
+    run(line, 2, number, 0, 0, 0, 0);
+    hands(line, 0, number);
+}
+
+/* The layout bytes, the left's and then the right's, are these; all others are as they were. */
+static void layouts(int line, const char *digits)
+{
+    size_t k = strlen(digits);
+
+    for (size_t i = 0; i < k; i++)
+        check(line, "layout byte", bytes()[r.length - k + i], digits[i] - '0');
+    check(line, "a byte before the layouts changed", memcmp(r.room, kept.room, FENCE + r.length - k) != 0, 0);
+}
+
+/* ---- document 01's bench examples */
+
+static void examples_1_to_4(void)
+{
+    static const uint16_t by_order[] = {3, 4, 2, 1};
+
+    /* 1: linked so that only the left order 4 3 1 2 crosses nothing and stands opposite its links. */
+    record('N', 4, caterpillar, balanced, by_order);
+    count(__LINE__, 0, 0);
+    entanglement(__LINE__, 0, 0, 20, 1, 0.0);
+
+    /* 2: own crossings 0, 2 and 3 of 1, 2 and 3 pairs, seen by turning each row over. */
+    case2('N');
+    count(__LINE__, 0, 5);
+    hand(__LINE__, TANGLE_LEFT, 1, 0);
+    count(__LINE__, 0, 6);
+    case2('N');
+    hand(__LINE__, TANGLE_LEFT, 2, 0);
+    count(__LINE__, 0, 3);
+    case2('N');
+    hand(__LINE__, TANGLE_LEFT, 3, 0);
+    count(__LINE__, 0, 2);
+
+    /* 3 */
+    case2('N');
+    free_side(__LINE__, TANGLE_LEFT, 0, 5, 0);
+    layouts(__LINE__, "011000");
+    count(__LINE__, 0, 0);
+    entanglement(__LINE__, 0, 0, 20, 1, 0.0);
+    case2('N');
+    run(__LINE__, TANGLE_MOST_TURNS, 0, 5, 0, 2, 1);
+    layouts(__LINE__, "011000");
+
+    /* 4 */
+    case2('N');
+    entanglement(__LINE__, 0, 18, 20, 1, 18.0 / 20.0);
+}
+
+static void examples_5_6_and_10(void)
+{
+    static const uint16_t left[] = {1, 2, 4, 3}, right[] = {3, 2, 1, 4};
+
+    example5();
+    count(__LINE__, 0, 1);
+    entanglement(__LINE__, 0, 2, 8, 1, 0.25); /* 10 */
+    free_side(__LINE__, TANGLE_LEFT, 0, 1, 1);
+    layouts(__LINE__, "0000");
+    free_side(__LINE__, TANGLE_RIGHT, 0, 1, 1);
+    layouts(__LINE__, "0000");
+    run(__LINE__, 130818, 0, 1, 1, 2, 1);
+    layouts(__LINE__, "0000");
+    list[0] = (struct tangle_entry){TANGLE_LEFT, 1};
+    list[1] = (struct tangle_entry){TANGLE_RIGHT, 2};
+    hands(__LINE__, 2, 0);
+    layouts(__LINE__, "1001");
+    count(__LINE__, 0, 0);
+    entanglement(__LINE__, 0, 0, 8, 1, 0.0);
+
+    record('N', 3, left, right, identity);
+    free_side(__LINE__, TANGLE_LEFT, 0, 1, 1);
+    run(__LINE__, 130818, 0, 1, 0, 3, 1);
+    record('N', 3, left, right, identity);
+    run(__LINE__, 1, 0, 1, 1, 1, 0);
+}
+
+static void examples_7_to_9(void)
+{
+    static const uint16_t pair[] = {1, 2}, crossed[] = {2, 1};
+    static const uint16_t good[] = {1, 2, 4, 3}, twice[] = {1, 2, 1, 3}, above[] = {1, 5, 2, 3};
+
+    /* 7 */
+    record('N', 1, NULL, NULL, identity);
+    count(__LINE__, 0, 0);
+    entanglement(__LINE__, 0, 0, 0, 0, 0.0);
+    run(__LINE__, 2, 0, 0, 0, 2, 1);
+    run(__LINE__, 1, 0, 0, 0, 1, 0);
+    free_side(__LINE__, TANGLE_LEFT, 0, 0, 0);
+    hand(__LINE__, TANGLE_LEFT, 1, 15);
+
+    /* 8 */
+    record('N', 2, pair, pair, crossed);
+    count(__LINE__, 0, 1);
+    free_side(__LINE__, TANGLE_LEFT, 0, 1, 0);
+    layouts(__LINE__, "10");
+
+    /* 9 */
+    record('N', 3, twice, good, identity);
+    refused(__LINE__, 7);
+    record('N', 3, good, twice, identity);
+    refused(__LINE__, 8);
+    record('N', 3, above, good, identity);
+    refused(__LINE__, 7);
+    record('N', 3, good, above, identity);
+    refused(__LINE__, 8);
+    record('N', 3, above, twice, identity);
+    refused(__LINE__, 7);
+}
+
+static void examples_11_to_13(void)
+{
+    /* 11, and the other holds */
+    case2('L');
+    free_side(__LINE__, TANGLE_LEFT, 11, 0, 0);
+    run(__LINE__, 130818, 11, 0, 0, 0, 0);
+    free_side(__LINE__, TANGLE_RIGHT, 0, 5, 0);
+    layouts(__LINE__, "000011");
+    free_side(__LINE__, TANGLE_LEFT, 11, 0, 0); /* though no byte would change */
+    case2('R');
+    free_side(__LINE__, TANGLE_RIGHT, 11, 0, 0);
+    run(__LINE__, 130818, 11, 0, 0, 0, 0);
+    free_side(__LINE__, TANGLE_LEFT, 0, 5, 0);
+    layouts(__LINE__, "011000");
+    case2('B');
+    count(__LINE__, 0, 5);
+    entanglement(__LINE__, 0, 18, 20, 1, 18.0 / 20.0);
+    free_side(__LINE__, TANGLE_LEFT, 11, 0, 0);
+    free_side(__LINE__, TANGLE_RIGHT, 11, 0, 0);
+    run(__LINE__, 130818, 11, 0, 0, 0, 0);
+
+    /* 12 */
+    deep(512, 0);
+    count(__LINE__, 0, 0);
+    run(__LINE__, 130818, 0, 0, 0, 2, 1);
+    run(__LINE__, 130819, 12, 0, 0, 0, 0);
+    run(__LINE__, 0, 12, 0, 0, 0, 0);
+    run(__LINE__, UINT32_MAX, 12, 0, 0, 0, 0);
+    deep(513, 0);
+    refused(__LINE__, 5);
+
+    /* 13 */
+    deep(512, 1);
+    count(__LINE__, 0, 130816);
+    entanglement(__LINE__, 0, 44739072, 44739072, 1, 1.0);
+    free_side(__LINE__, TANGLE_RIGHT, 0, 130816, 0);
+}
+
+/* ---- refusals */
+
+static void records_refused(void)
+{
+    static const uint16_t twice[] = {1, 2, 2, 4}, above[] = {1, 2, 3, 5};
+
+    for (size_t k = 0; k < 8; k++) {
+        case2('N');
+        r.length = k;
+        refused(__LINE__, 1);
+    }
+    memset(&r, 0, sizeof r);
+    r.length = 46;
+    refused(__LINE__, 2);
+    case2('N');
+    bytes()[2] = 'p';
+    refused(__LINE__, 2);
+    case2('N');
+    bytes()[3] = 1;
+    refused(__LINE__, 3);
+    case2('N');
+    bytes()[4] = 2;
+    refused(__LINE__, 3);
+    case2('n');
+    refused(__LINE__, 4);
+    case2('N');
+    bytes()[7] = 0;
+    refused(__LINE__, 5);
+    case2('N');
+    r.length--;
+    refused(__LINE__, 6);
+    case2('N');
+    r.length++;
+    refused(__LINE__, 6);
+    record('N', 4, caterpillar, balanced, twice);
+    refused(__LINE__, 9);
+    record('N', 4, caterpillar, balanced, above);
+    refused(__LINE__, 9);
+    case2('N');
+    bytes()[40] = 2;
+    refused(__LINE__, 10);
+    case2('B');
+    bytes()[45] = 255;
+    refused(__LINE__, 10);
+}
+
+/* A length and a number of entries whose low 16 bits would be accepted. */
+static void longer_than_16_bits(void)
+{
+    static uint8_t s[65536 + 46];
+    static struct tangle_entry many[65536];
+    int changed = 0;
+
+    case2('N');
+    memcpy(s, bytes(), r.length);
+    check(__LINE__, "count's refusal", tangle_count(s, sizeof s).refusal, 6);
+    check(__LINE__, "freeing's refusal", tangle_free(s, sizeof s, TANGLE_LEFT).refusal, 6);
+    check(__LINE__, "a run's refusal", tangle_run(s, sizeof s, 2).refusal, 6);
+    check(__LINE__, "entanglement's refusal", tangle_entanglement(s, sizeof s).refusal, 6);
+    check(__LINE__, "a hand list's refusal", tangle_hands(s, sizeof s, many, 0).refusal, 6);
+    check(__LINE__, "a hand list's refusal", tangle_hands(s, 46, many, 65536).refusal, 17);
+    check(__LINE__, "a byte of the record changed", memcmp(s, bytes(), r.length) != 0, 0);
+    for (size_t i = r.length; i < sizeof s; i++)
+        changed |= s[i];
+    check(__LINE__, "a byte after it changed", changed, 0);
+}
+
+static void arguments_refused(void)
+{
+    case2('B');
+    free_side(__LINE__, 0, 13, 0, 0);
+    free_side(__LINE__, 3, 13, 0, 0);
+    free_side(__LINE__, 65535, 13, 0, 0);
+    hand(__LINE__, 0, 0, 13); /* 13 before 15 before 11 */
+    hand(__LINE__, 3, 1, 13);
+    hand(__LINE__, TANGLE_LEFT, 0, 15);
+    hand(__LINE__, TANGLE_RIGHT, 4, 15);
+    hand(__LINE__, TANGLE_LEFT, 1, 11);
+    hand(__LINE__, TANGLE_RIGHT, 3, 11);
+    hands(__LINE__, 0, 0);
+
+    /* 12 and 13 come before the record, an entry's numbers after it */
+    r.length = 7;
+    free_side(__LINE__, 3, 13, 0, 0);
+    run(__LINE__, 0, 12, 0, 0, 0, 0);
+    hand(__LINE__, 3, 0, 1);
+    case2('L');
+    bytes()[45] = 7;
+    free_side(__LINE__, TANGLE_LEFT, 10, 0, 0);
+    run(__LINE__, 1, 10, 0, 0, 0, 0);
+    hand(__LINE__, TANGLE_LEFT, 1, 10);
+}
+
+static void hand_lists(void)
+{
+    /* the first bad entry decides, and refuses the good ones before it */
+    case2('R');
+    list[0] = (struct tangle_entry){TANGLE_LEFT, 1};
+    list[1] = (struct tangle_entry){TANGLE_RIGHT, 1};
+    list[2] = (struct tangle_entry){7, 1};
+    hands(__LINE__, 3, 11);
+    hands(__LINE__, 1, 0);
+    layouts(__LINE__, "100000");
+    hands(__LINE__, 1, 0);
+    layouts(__LINE__, "000000");
+
+    /* 1,024 entries: row 1 over and over, and once row 3 of the right */
+    for (int i = 0; i <= TANGLE_MOST_HANDS; i++)
+        list[i] = (struct tangle_entry){TANGLE_LEFT, 1};
+    list[1023] = (struct tangle_entry){TANGLE_RIGHT, 3};
+    case2('N');
+    hands(__LINE__, 1024, 0);
+    layouts(__LINE__, "100001");
+    case2('N');
+    hands(__LINE__, 1025, 17);
+    r.length = 0;
+    hands(__LINE__, 1025, 17);
+}
+
+int main(void)
+{
+    examples_1_to_4();
+    examples_5_6_and_10();
+    examples_7_to_9();
+    examples_11_to_13();
+    records_refused();
+    longer_than_16_bits();
+    arguments_refused();
+    hand_lists();
+    printf("test: %u checks, %u failed\n", checks, failures);
+    return failures == 0 && checks != 0 ? 0 : 1;
+}

@@ -1,0 +1,53 @@
+#!/usr/bin/env bash
+# The calls for C: builds the archive of crates/viewer, compiles test.c and viewer.c against it, runs both. Ends with 0
+# and one line that says so only if every check passed. Runs on x86-64, and on Arm by a cross compiler and the kit's
+# emulator.
+set -euo pipefail
+cd "$(dirname "$0")/../.."
+
+kit=$(dirname "$(dirname "$(rt doc)")")
+emulator=()
+case $(uname -m) in
+  x86_64)
+    tool='' packages=(gcc libc6-dev)
+    ;;
+  *)
+    tool=x86_64-linux-gnu- packages=(gcc-x86-64-linux-gnu libc6-dev-amd64-cross)
+    emulator=("$kit/on/$(uname -m)/toolchain/bin/qemu-x86_64")
+    ;;
+esac
+if ! command -v "${tool}gcc" > /dev/null; then
+  { apt-get update && apt-get install -y --no-install-recommends "${packages[@]}"; } > /dev/null
+fi
+
+out=target/viewer
+mkdir -p "$out"
+rt staticlib viewer > "$out/viewer.log" 2>&1 || { cat "$out/viewer.log"; exit 1; }
+for program in test viewer; do
+  "${tool}gcc" -std=c11 -Wall -Wextra -Werror -pedantic -O2 -static -o "$out/$program" "host/viewer/$program.c" \
+    target/staticlib/libviewer.a
+done
+
+"${emulator[@]}" "$out/test"
+
+# Runs the viewer on case 2's record with a hold letter, entries of a hand list after it. Its output is compared with a
+# file, its status with the one that is expected.
+shows() {
+  local letter=$1 expected=$2 status=$3 got=0
+  shift 3
+  {
+    printf 'TGP\0\1%s\0\4' "$letter"
+    printf '\0\1\0\2\0\3\0\5\0\4\0\6' # left rows
+    printf '\0\1\0\2\0\3\0\4\0\5\0\6' # right rows
+    printf '\0\1\0\2\0\3\0\4'         # links
+    printf '\0\0\0\0\0\0'             # layouts
+  } | "${emulator[@]}" "$out/viewer" "$@" > "$out/$expected" || got=$?
+  diff "host/viewer/$expected" "$out/$expected" || { echo "viewer: $expected differs"; exit 1; }
+  [ "$got" = "$status" ] || { echo "viewer: $expected ends with $got, not $status"; exit 1; }
+}
+shows N case2.txt 0 1:2 1:3
+shows L held.txt 1 1:2
+shows X refused.txt 1
+shows N row4.txt 1 2:1 1:4
+
+echo "viewer: all passed"

@@ -1,0 +1,162 @@
+/* A viewer of one record, over the calls for C (tangle.h).
+ *
+ *     viewer [SIDE:ROW ..] < RECORD
+ *
+ * Prints its crossings and entanglement; what freeing the left, freeing the right and a run with the largest allowance
+ * come to, each from the record as read; and, where entries of a hand list are given, the crossings once their rows are
+ * turned over. A refusal is printed in the place of its numbers, with its words. Ends with 0, with 1 if a call was
+ * refused, and with 2 if a word is no entry.
+ */
+#include <errno.h>
+#include <stdio.h>
+#include <stdlib.h>
+
+#include "tangle.h"
+
+/* Room for one byte more than the longest record has, so that longer input is refused for its length. */
+struct record {
+    size_t length;
+    uint8_t bytes[TANGLE_MOST_BYTES + 1];
+};
+
+static const char *words(uint32_t refusal)
+{
+    switch (refusal) {
+    case TANGLE_SHORT: return "fewer than 8 bytes";
+    case TANGLE_MARK: return "mark isn't TGP";
+    case TANGLE_VERSION: return "version isn't 1";
+    case TANGLE_HOLD: return "hold isn't one of the four letters";
+    case TANGLE_SIZE: return "n is 0 or above 512";
+    case TANGLE_LENGTH: return "length isn't 12n-2";
+    case TANGLE_LEFT_ROW: return "a left row breaks the tree rule";
+    case TANGLE_RIGHT_ROW: return "a right row breaks the tree rule";
+    case TANGLE_LINKS: return "links aren't one-to-one on 1 to n";
+    case TANGLE_LAYOUT: return "a layout byte isn't 0 or 1";
+    case TANGLE_HELD:
+        return "the call frees a held side, runs while a side is held, or has a hand entry for a held side";
+    case TANGLE_ALLOWANCE: return "allowance 0 or above 130,818";
+    case TANGLE_SIDE: return "side isn't 1 (left) or 2 (right)";
+    case TANGLE_ROW: return "row 0 or above n-1";
+    case TANGLE_HANDS: return "a hand list is longer than 1,024";
+    default: return "a refusal without words";
+    }
+}
+
+/* Whether there is a refusal; if so, ends the line with it. */
+static int refused(uint32_t refusal)
+{
+    if (refusal == TANGLE_ACCEPTED)
+        return 0;
+    printf("REFUSED %u, %s\n", (unsigned)refusal, words(refusal));
+    return 1;
+}
+
+static int show_entanglement(const struct record *r)
+{
+    struct tangle_entanglement e = tangle_entanglement(r->bytes, r->length);
+
+    printf("entanglement: ");
+    if (refused(e.refusal))
+        return 1;
+    if (e.has_ratio)
+        printf("%u of %u, ratio %.6f\n", (unsigned)e.displacement, (unsigned)e.worst, e.ratio);
+    else
+        printf("no ratio\n");
+    return 0;
+}
+
+/* Takes the record by value: freeing changes the copy. */
+static int show_free(struct record r, uint16_t side, const char *name)
+{
+    struct tangle_free f = tangle_free(r.bytes, r.length, side);
+
+    printf("%s freed: ", name);
+    if (refused(f.refusal))
+        return 1;
+    printf("%u to %u\n", (unsigned)f.before, (unsigned)f.after);
+    return 0;
+}
+
+static int show_run(struct record r)
+{
+    struct tangle_run t = tangle_run(r.bytes, r.length, TANGLE_MOST_TURNS);
+
+    printf("run: ");
+    if (refused(t.refusal))
+        return 1;
+    printf("refusal %u, first %u, last %u, turns %u, settled %u\n", (unsigned)t.refusal, (unsigned)t.first,
+           (unsigned)t.last, (unsigned)t.turns, (unsigned)t.settled);
+    return 0;
+}
+
+static int show_hands(struct record r, const struct tangle_entry *list, size_t entries)
+{
+    struct tangle_hands h = tangle_hands(r.bytes, r.length, list, entries);
+    struct tangle_count c;
+
+    printf("by hand: ");
+    if (refused(h.refusal))
+        return 1;
+    c = tangle_count(r.bytes, r.length);
+    if (refused(c.refusal))
+        return 1;
+    printf("%u crossings\n", (unsigned)c.count);
+    return 0;
+}
+
+/* Reads a number of 16 bits, digits only, up to a character; NULL where there is none. */
+static const char *number(const char *at, char end, uint16_t *x)
+{
+    char *stop;
+    unsigned long v;
+
+    if (*at < '0' || '9' < *at)
+        return NULL;
+    errno = 0;
+    v = strtoul(at, &stop, 10);
+    if (errno != 0 || 65535 < v || *stop != end)
+        return NULL;
+    *x = (uint16_t)v;
+    return stop;
+}
+
+static int entry(const char *word, struct tangle_entry *e)
+{
+    const char *colon = number(word, ':', &e->side);
+
+    return colon != NULL && number(colon + 1, '\0', &e->row) != NULL;
+}
+
+int main(int argc, char **argv)
+{
+    static struct record r;
+    struct tangle_entry *list = calloc((size_t)argc, sizeof *list);
+    struct tangle_count c;
+    int bad = 0;
+
+    if (list == NULL)
+        return 2;
+    for (int i = 1; i < argc; i++)
+        if (!entry(argv[i], &list[i - 1])) {
+            fprintf(stderr, "%s is no SIDE:ROW\n", argv[i]);
+            free(list);
+            return 2;
+        }
+    r.length = fread(r.bytes, 1, sizeof r.bytes, stdin);
+
+    c = tangle_count(r.bytes, r.length);
+    printf("crossings: ");
+    if (refused(c.refusal)) {
+        free(list);
+        return 1;
+    }
+    printf("%u\n", (unsigned)c.count);
+    bad |= show_entanglement(&r);
+    bad |= show_free(r, TANGLE_LEFT, "left");
+    bad |= show_free(r, TANGLE_RIGHT, "right");
+    bad |= show_run(r);
+    if (1 < argc)
+        bad |= show_hands(r, list, (size_t)argc - 1);
+    free(list);
+    return bad;
+}
