@@ -231,12 +231,13 @@ pub fn answer(line: &[u8]) -> String {
     }
 }
 
-/// The lines of what was read. A last line without a line feed is one, unless the reading
-/// stopped at the most bytes: then it did not end within them.
+/// The lines of the first bytes of what was read. A last line without a line feed is one, unless
+/// more was read than those: then it did not end within them.
 pub fn lines(input: &[u8]) -> Vec<&[u8]> {
-    let mut lines: Vec<&[u8]> = input.split(|&byte| byte == b'\n').collect();
+    let (answered, more) = input.split_at(input.len().min(MOST_BYTES));
+    let mut lines: Vec<&[u8]> = answered.split(|&byte| byte == b'\n').collect();
     let rest = lines.pop().unwrap_or_default();
-    if !rest.is_empty() && input.len() < MOST_BYTES {
+    if !rest.is_empty() && more.is_empty() {
         lines.push(rest);
     }
     lines
@@ -294,12 +295,14 @@ mod tests {
         assert_eq!(lines(b"").len(), 0);
         assert_eq!(lines(b"\n"), [b""]);
         assert_eq!(lines(b"a\n\nb"), [b"a".as_slice(), b"", b"b"]);
-        let mut input = vec![b'x'; MOST_BYTES];
+        let mut input = vec![b'x'; MOST_BYTES + 1];
         assert_eq!(lines(&input).len(), 0);
+        assert_eq!(lines(&input[1..]).len(), 1);
         input[10] = b'\n';
         assert_eq!(lines(&input), [[b'x'; 10]]);
         assert_eq!(lines(&input[1..]).len(), 2);
-        input[MOST_BYTES - 1] = b'\n';
-        assert_eq!(lines(&input).len(), 2);
+        input[MOST_BYTES] = b'\n';
+        assert_eq!(lines(&input).len(), 1);
+        assert_eq!(lines(&input[1..]).len(), 2);
     }
 }

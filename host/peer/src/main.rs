@@ -40,7 +40,7 @@ fn read_at_most(bytes: u64) -> io::Result<Vec<u8>> {
 }
 
 fn answers(out: &mut impl Write) -> io::Result<()> {
-    let input = read_at_most(desk::MOST_BYTES as u64)?;
+    let input = read_at_most(desk::MOST_BYTES as u64 + 1)?;
     for line in desk::lines(&input) {
         writeln!(out, "{}", desk::answer(line))?;
     }

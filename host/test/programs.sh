@@ -1,0 +1,25 @@
+# For the other scripts: the repository's root as the working directory, where things are, and how to run a program that
+# rt built. Programs are for x86-64; elsewhere the kit's emulator runs them.
+set -euo pipefail
+cd "$(dirname "${BASH_SOURCE[0]}")/../.."
+
+out=target/test
+peer=target/peer/release/peer
+tools=$(dirname "$(dirname "$(rt doc)")")/on/$(uname -m)/toolchain
+emulator=()
+[ "$(uname -m)" = x86_64 ] || emulator=("$tools/bin/qemu-x86_64")
+mkdir -p "$out"
+
+# program NAME: runs target/bin/NAME on standard input.
+program() {
+  "${emulator[@]}" "$tools/lib/ld-linux-x86-64.so.2" --library-path "$tools/lib" "target/bin/$1"
+}
+
+# Builds the peer, and the programs where rt has not built them yet.
+build() {
+  command -v cargo > /dev/null || { apt-get update && apt-get install -y --no-install-recommends cargo; } > /dev/null
+  CARGO_TARGET_DIR=target/peer cargo build --quiet --release --offline --manifest-path host/peer/Cargo.toml
+  for name in sheet desk; do
+    [ -x "target/bin/$name" ] || rt check "$name" > "$out/$name.log" 2>&1 || { cat "$out/$name.log"; exit 1; }
+  done
+}

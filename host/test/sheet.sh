@@ -1,0 +1,41 @@
+#!/usr/bin/env bash
+# Compares sheet with the peer's sheet: records of all shapes and sizes, each hold, cut short, too long, empty, damaged,
+# and given in pieces. Ends with 1 at the first difference.
+. "$(dirname "$0")/programs.sh"
+build
+records=0
+
+# same FILE: sheet's and the peer's text for the bytes in FILE.
+same() {
+  "$peer" sheet < "$1" > "$out/sheet.want"
+  program sheet < "$1" > "$out/sheet.got"
+  cmp "$out/sheet.want" "$out/sheet.got" || { echo "sheet and the peer differ on $1"; cp "$1" "$out/sheet.differs"; exit 1; }
+  records=$((records + 1))
+}
+
+# with HOLD: the record in $file with another hold letter.
+with() {
+  { head -c 5 "$file"; printf '%s' "$1"; tail -c +7 "$file"; } > "$file.hold"
+}
+
+file=$out/sheet.record
+for n in 1 2 3 4 8 64 511 512; do
+  for shape in balanced caterpillar random; do
+    "$peer" record "$shape" "$n" "$n" > "$file"
+    same "$file"
+    for hold in L R B M; do with "$hold"; same "$file.hold"; done
+    head -c $((12 * n - 3)) "$file" > "$file.short"; same "$file.short"
+    { cat "$file"; printf 'x'; } > "$file.long"; same "$file.long"
+  done
+done
+cp crates/sheet/stdin "$file"
+for bytes in 0 1 7 8 9 45; do head -c "$bytes" "$file" > "$file.short"; same "$file.short"; done
+head -c 46 /dev/zero > "$file.zero"; same "$file.zero"
+"$peer" record random 512 1 > "$file"
+{ cat "$file" "$file"; } > "$file.long"; same "$file.long"
+
+# A pipe gives the input in pieces.
+cp crates/sheet/stdin "$file"
+{ head -c 5 "$file"; sleep 0.2; tail -c +6 "$file" | head -c 20; sleep 0.2; tail -c +26 "$file"; } | program sheet > "$out/sheet.got"
+cmp "$out/sheet.got" crates/sheet/stdout
+echo "sheet: $records inputs printed as the peer does"
