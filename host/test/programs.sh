@@ -15,11 +15,15 @@ program() {
   "${emulator[@]}" "$tools/lib/ld-linux-x86-64.so.2" --library-path "$tools/lib" "target/bin/$1"
 }
 
-# Builds the peer, and the programs where rt has not built them yet.
+# built NAME: has rt prove and build a program, where it has not yet.
+built() {
+  [ -x "target/bin/$1" ] || rt check "$1" > "$out/$1.log" 2>&1 || { cat "$out/$1.log"; exit 1; }
+}
+
+# Builds the peer, and the programs that it is compared with.
 build() {
   command -v cargo > /dev/null || { apt-get update && apt-get install -y --no-install-recommends cargo; } > /dev/null
   CARGO_TARGET_DIR=target/peer cargo build --quiet --release --offline --manifest-path host/peer/Cargo.toml
-  for name in sheet desk; do
-    [ -x "target/bin/$name" ] || rt check "$name" > "$out/$name.log" 2>&1 || { cat "$out/$name.log"; exit 1; }
-  done
+  built sheet
+  built desk
 }
