@@ -1,5 +1,5 @@
-/* Peak stack of gauge_order (crates/gauge), by a painted stack. A line for each tree: name, leaves, layout byte, bytes.
- * Ends with 1 if an order is not the one expected. */
+/* Peak stack of gauge_order (crates/gauge), by a painted stack. A line for each tree: name, leaves, layout byte,
+ * bytes. Ends with 1 if an order is not the one expected. */
 #include <stdio.h>
 
 #include "painted.h"
@@ -41,7 +41,8 @@ static int measure(const char *name, rows_t *rows, uint16_t n, uint8_t turned, i
     job.n = n;
     rows(job.rows, n);
     memset(job.layout, turned, sizeof job.layout);
-    size_t bytes = reach_of(gauge_order) - reach_of(no_call) + sizeof(void *); /* its return address, which both have */
+    /* its return address, which both have, counts too */
+    size_t bytes = reach_of(gauge_order) - reach_of(no_call) + sizeof(void *);
     int good = gauge_order(job.rows, 2 * (size_t)(n - 1), n, job.layout, n - 1, job.out, n) == n;
     for (uint16_t i = 0; i < n; i++) good &= job.out[i] == (falls ? n - i : i + 1);
     printf("%s %u %u %zu\n", name, n, turned, bytes);
