@@ -38,8 +38,9 @@ compiled_here() { # the module compiled for this machine, as $work/calls.o
     -O3 -Werror -Wno-override-module -c -x ir "$work/module.ll" -o "$work/calls.o"
 }
 
-command -v gcc > /dev/null || { apt-get update && apt-get install -y --no-install-recommends gcc libc6-dev; } > /dev/null
-command -v cargo > /dev/null || { apt-get update && apt-get install -y --no-install-recommends cargo; } > /dev/null
+if ! { command -v gcc && command -v cargo; } > /dev/null; then
+  { apt-get update && apt-get install -y --no-install-recommends gcc libc6-dev cargo; } > /dev/null
+fi
 case $machine in
   x86_64) archive gauge_calls && calls=target/staticlib/libgauge_calls.a ;;
   *) compiled_here && calls=$work/calls.o ;;
