@@ -5,27 +5,12 @@
 set -euo pipefail
 cd "$(dirname "$0")/../.."
 
+. host/measure/tools.sh
+x86_tools
 limit=24576
-kit=$(dirname "$(dirname "$(rt doc)")")
-emulator=()
-case $(uname -m) in
-  x86_64)
-    tool=x86_64-linux-gnu- packages=(gcc libc6-dev binutils)
-    command -v "${tool}gcc" > /dev/null || tool=''
-    ;;
-  *)
-    tool=x86_64-linux-gnu- packages=(gcc-x86-64-linux-gnu libc6-dev-amd64-cross binutils-x86-64-linux-gnu)
-    emulator=("$kit/on/$(uname -m)/toolchain/bin/qemu-x86_64")
-    ;;
-esac
-if ! { command -v "${tool}gcc" && command -v "${tool}objdump"; } > /dev/null; then
-  { apt-get update && apt-get install -y --no-install-recommends "${packages[@]}"; } > /dev/null
-fi
 
-mkdir -p target/measure
-rt staticlib gauge > target/measure/gauge.log 2>&1 || { cat target/measure/gauge.log; exit 1; }
-# Linked statically, so that no call looks a function of C's up on the measured stack.
-"${tool}gcc" -O2 -Wall -Wextra -Werror -static -o target/measure/stack host/measure/stack.c target/staticlib/libgauge.a
+archive gauge
+linked target/measure/stack target/staticlib/libgauge.a host/measure/stack.c
 "${emulator[@]}" target/measure/stack > target/measure/stack.out
 
 # Bytes that each call of the walk takes: its return address, what it pushes, and what it sets apart.

@@ -1,0 +1,29 @@
+#!/usr/bin/env bash
+# Peak stack of every call (crates/gauge_calls) over 512 leaves, arrays included: trees deep on the upper or the lower
+# side, balanced and random ones, on either side of the table, with layouts of 0, of 1 and mixed. Prints for each call
+# the record that takes most, and the bytes together with the record's own 6,142. Ends with 1 if that is more than 40
+# KiB for a call, or if a call refuses. Runs on x86-64, and on Arm by a cross compiler and the kit's emulator.
+set -euo pipefail
+cd "$(dirname "$0")/../.."
+. host/measure/tools.sh
+x86_tools
+
+archive gauge_calls
+linked target/measure/calls target/staticlib/libgauge_calls.a host/measure/calls.c
+"${emulator[@]}" target/measure/calls > target/measure/calls.out
+
+awk -v limit=40960 -v record=6142 '
+  !($1 in most) { name[++calls] = $1 }
+  $5 > most[$1] { most[$1] = $5; left[$1] = $2; right[$1] = $3; layout[$1] = $4 }
+  END {
+    printf "%-13s %-11s %-11s %6s %12s %16s\n", "call", "left", "right", "layout", "stack bytes", "with the record"
+    for (i = 1; i <= calls; i++) {
+      c = name[i]
+      all = most[c] + record
+      printf "%-13s %-11s %-11s %6d %12d %16d%s\n", c, left[c], right[c], layout[c], most[c], all,
+        (all > limit ? "  above the limit" : "")
+      if (all > worst) worst = all
+    }
+    printf "most: %d bytes of stack, %d with the record; limit: %d\n", worst - record, worst, limit
+    exit (worst > limit || calls != 13)
+  }' target/measure/calls.out

@@ -1,0 +1,56 @@
+/* Rows of trees over n leaves: row i, from 1 on, is rows[2i-2] over rows[2i-1] and makes object n + i. */
+#ifndef TREES_H
+#define TREES_H
+
+#include <stdint.h>
+
+typedef void rows_t(uint16_t *rows, uint16_t n);
+
+/* A number below `most`, the same ones in every run of the program. */
+static inline uint16_t below(uint16_t most) {
+    static uint32_t state = 2463534242;
+    state ^= state << 13;
+    state ^= state >> 17;
+    state ^= state << 5;
+    return state % most;
+}
+
+/* Upper deep: (1,2), (n+1,3), (n+2,4), .. with the order 1 to n. */
+static void upper_deep(uint16_t *rows, uint16_t n) {
+    for (uint16_t i = 1; i < n; i++) {
+        rows[2 * i - 2] = i == 1 ? 1 : n + i - 1;
+        rows[2 * i - 1] = i + 1;
+    }
+}
+
+/* Lower deep: (2,1), (3,n+1), (4,n+2), .. with the order n to 1. */
+static void lower_deep(uint16_t *rows, uint16_t n) {
+    for (uint16_t i = 1; i < n; i++) {
+        rows[2 * i - 2] = i + 1;
+        rows[2 * i - 1] = i == 1 ? 1 : n + i - 1;
+    }
+}
+
+/* Balanced, where n is a power of 2: (1,2), (3,4), .. with the order 1 to n. */
+static void balanced(uint16_t *rows, uint16_t n) {
+    for (uint16_t i = 1; i < n; i++) {
+        rows[2 * i - 2] = 2 * i - 1;
+        rows[2 * i - 1] = 2 * i;
+    }
+}
+
+/* Any two objects that are not under a row yet, again and again. */
+static inline void joined(uint16_t *rows, uint16_t n) {
+    uint16_t pool[512];
+    for (uint16_t i = 0; i < n; i++) pool[i] = i + 1;
+    for (uint16_t i = 1; i < n; i++) {
+        for (int entry = 2; entry >= 1; entry--) {
+            uint16_t most = n - i + entry - 1, k = below(most);
+            rows[2 * i - entry] = pool[k];
+            pool[k] = pool[most - 1];
+        }
+        pool[n - i - 1] = n + i;
+    }
+}
+
+#endif
