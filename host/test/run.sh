@@ -10,5 +10,5 @@ bash host/test/desk.sh
 bash host/test/sheet.sh
 bash host/viewer/test.sh
 bash host/measure/stack.sh
-bash host/measure/calls.sh
 bash host/measure/size.sh gauge_calls
+cat target/measure/calls.txt
