@@ -88,7 +88,8 @@ pub fn bytes(word: &[u8], out: &mut [u8], at: usize) -> usize {
     at + n
 }
 
-// Puts the 16-bit numbers that a word says, separated by commas, into out from place `at` on, and answers where they end.
+// Puts the 16-bit numbers that a word says, with commas between, into out from place `at` on, and answers where they
+// end.
 pub fn list(word: &[u8], out: &mut [u16], at: usize) -> usize {
     if same(word, b"-") {
         return at;

@@ -1,5 +1,5 @@
-// Packing and unpacking: a record's parts as words. Each function takes one or two words apart and hands what they say to
-// the next; the last one makes the call.
+// Packing and unpacking: a record's parts as words. Each function takes one or two words apart and hands what they say
+// to the next; the last one makes the call.
 use crate::answering::next_bytes;
 use crate::answering::next_list;
 use crate::answering::no_call;

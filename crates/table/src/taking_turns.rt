@@ -54,7 +54,8 @@ fn freeing_number(s: &[u8], side: u16) -> u16
     0
 }
 
-// Frees a side of any bytes: the counts before and after, and the layout bytes of that side; or the refusal, and no byte.
+// Frees a side of any bytes: the counts before and after, and the layout bytes of that side; or the refusal, and no
+// byte.
 pub fn free(s: &mut [u8], side: u16) -> Freed
     ensures { λ r. ⌜ Frees (now (s .entry)) side r (now (s .exit)) ⌝ }
 {

@@ -1,5 +1,5 @@
-// Document 01's examples on records: case 2 from count to run, examples 5, 6 and 11, allowances on both sides of their limits, a hand
-// list and better of two. A line for each, with the numbers answered.
+// Document 01's examples on records: case 2 from count to run, examples 5, 6 and 11, allowances on both sides of their
+// limits, a hand list and better of two. A line for each, with the numbers answered.
 mod printing;
 mod records;
 

@@ -1,3 +1,4 @@
+-- `answer_all`: a line begins within the input, and the buffers keep their lengths.
 use mathlib.Core.Path.{sym}
 use lib.Seq.{length-take-le}
 use native.Mathlib.Omega.{arith}
@@ -9,7 +10,8 @@ use Rattle.desk.proofs.answer_all.Statement.{statement}
 use Rattle.desk.proofs.answer_all.Tie as tie
 
 abbrev Inv-loop : tie.InvT-loop
-Inv-loop input s₀ xs₀ layouts₀ from₀ s xs layouts from = (from ≤ length input) × ((length s ≡ length s₀) × ((length xs ≡ length xs₀) × (length layouts ≡ length layouts₀)))
+Inv-loop input s₀ xs₀ layouts₀ from₀ s xs layouts from =
+    (from ≤ length input) × ((length s ≡ length s₀) × ((length xs ≡ length xs₀) × (length layouts ≡ length layouts₀)))
 
 abbrev μ-loop : tie.MeasureT-loop
 μ-loop input s₀ xs₀ layouts₀ from₀ s xs layouts from = length input - from

@@ -1,3 +1,4 @@
+-- `orders`: at most 512 entries of the order are shown.
 use native.Mathlib.Omega.{arith}
 use mathlib.Core.Path.{sym}
 use lib.Seq.{length-take-le}

@@ -1,3 +1,4 @@
+-- `spelled`: two digits for each byte, 64 at most.
 use borrow.Author.Needs.{needs}
 use Prim.Native.Nat.{_-_, _≤_}
 use mathlib.Core.Path.{_≡_}

@@ -1,3 +1,4 @@
+-- `bytes`: two digits for each byte stand within the word, and the bytes have room.
 use borrow.Author.Needs.{needs}
 use Prim.Native.Nat.{_-_, _≤_}
 use mathlib.Core.Path.{_≡_}

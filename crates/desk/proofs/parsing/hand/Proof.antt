@@ -1,3 +1,4 @@
+-- `hand`: the colon stands within the word.
 use mathlib.Core.Path.{sym}
 use native.Mathlib.Omega.{arith}
 use lib.Seq.{length-take-le}

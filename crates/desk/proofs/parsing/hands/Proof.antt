@@ -1,3 +1,4 @@
+-- `hands`: an entry begins within the word; hands are put within the room.
 use borrow.Author.Needs.{needs}
 use Prim.Native.Nat.{_-_, _≤_}
 use mathlib.Core.Path.{_≡_}

@@ -1,3 +1,4 @@
+-- `list`: an entry begins within the word; numbers are put within the room.
 use borrow.Author.Needs.{needs}
 use Prim.Native.Nat.{_-_, _≤_}
 use mathlib.Core.Path.{_≡_}

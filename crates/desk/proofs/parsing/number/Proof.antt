@@ -1,3 +1,4 @@
+-- `number`: what was read so far is at most the most.
 use borrow.Author.Needs.{needs}
 use Prim.Native.Nat.{_-_, _≤_}
 use lib.ListN.{length}

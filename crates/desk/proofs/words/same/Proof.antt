@@ -1,3 +1,4 @@
+-- `same`: the words have one length, and places below it are in both.
 use borrow.Author.Needs.{needs}
 use Prim.Native.Nat.{_-_, _≤_}
 use mathlib.Core.Path.{_≡_}

@@ -1,3 +1,4 @@
+-- `spaces`: there are at most as many spaces as bytes looked at.
 use borrow.Author.Needs.{needs}
 use Prim.Native.Nat.{_-_, _≤_}
 use lib.ListN.{length}

@@ -1,3 +1,4 @@
+-- `start`: a word begins within the line.
 use borrow.Author.Needs.{needs}
 use Prim.Native.Nat.{_-_, _≤_}
 use lib.ListN.{length}

@@ -1,3 +1,4 @@
+-- `upto`: the place looked at is from the first place on, and at most the end.
 use borrow.Author.Needs.{needs}
 use Prim.Native.Nat.{_-_, _≤_}
 use lib.ListN.{length}
