@@ -69,8 +69,7 @@ loop-again c =
     let head = w .before .before .before in
     let a = head .before .args in
     let i = head .loop .i in
-    let R = at (a .xs .now) in
-    (
+    let R = at (a .xs .now) in (
       omega arith,
       ap (λ (k : ℕ). set (head .loop .list) i (getD (a .xs .now) (k - 1) 0)) (leaf w .0)
           ∙ ap (λ (k : ℕ). set (head .loop .list) i (getD (a .xs .now) k 0)) (sub-one (getD (a .list .now) i 0))
