@@ -7,8 +7,8 @@ use native.Mathlib.Nat.{mul-le-mul}
 use native.Mathlib.Numerals.{add-one}
 use native.Mathlib.Omega.{arith}
 use lib.Dec.{ltb}
-use lib.ListN.{length, getD, take, drop, replicate, length-take, length-drop}
-use lib.Seq.{take-suc, getD-drop}
+use lib.ListN.{length, getD, take, replicate, length-take}
+use lib.Seq.{take-suc}
 use Rattle.tanglegram.specs.Lists.{Each, Distinct, range, bit}
 use Rattle.tanglegram.specs.Entanglement.{sum}
 use Rattle.tanglegram.specs.Crossings.{over, across, pairs, inverted}

@@ -2,7 +2,6 @@
 -- there, that both ways together are as many as the pairs, and that comparing the two ways tells whether turning the row over gains.
 use Prim.Native.Nat.{ℕ, zero, suc, _+_, _-_, _*_, _≤_, _<_}
 use mathlib.Core.Path.{_≡_, refl, sym, ap, ap₂, _∙_, subst}
-use mathlib.Core.Bool.{Bool}
 use mathlib.Core.Logic.{_≢_}
 use mathlib.Core.List.{List, [], _∷_, _++_, map, map-append, List·Permᴰ, Permᴰ·symm, Permᴰ·map}
 use native.Mathlib.Decide.{ℕ-discrete}
@@ -10,7 +9,7 @@ use native.Mathlib.Omega.{arith}
 use lib.Dec.{ltb}
 use lib.ListN.{length, getD, set, take, drop, replicate, length-append, length-map, length-set, length-replicate, getD-replicate}
 use lib.Seq.{drop-cons, getD-take, getD-set-same, getD-set-other}
-use Rattle.tanglegram.specs.Lists.{Each, Distinct, range, place}
+use Rattle.tanglegram.specs.Lists.{Distinct, range, place}
 use Rattle.tanglegram.specs.Tree.{Tree, leaf, fork, leaves}
 use Rattle.tanglegram.specs.Crossings.{across, inverted, between}
 use Rattle.tanglegram.proofs.Lists.{distinct-perm, mem-perm, mem-range, place-below}

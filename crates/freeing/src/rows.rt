@@ -45,7 +45,9 @@ fn wide(x: u16) -> usize
 fn gains(seen: &[u16; 512], at: usize, first: usize, second: usize) -> bool
     requires { ⌜ (at + first + second ≤ 512) × (length (now seen) ≡ 512) ⌝ }
     requires { ⌜ asItStands (now seen) at first second + theOther (now seen) at first second ≡ first * second ⌝ }
-    ensures { λ r. ⌜ r ≡ ltb (theOther (now (seen .entry)) at first second) (asItStands (now (seen .entry)) at first second) ⌝ }
+    ensures { λ r. ⌜
+        r ≡ ltb (theOther (now (seen .entry)) at first second) (asItStands (now (seen .entry)) at first second)
+        ⌝ }
 {
     let next = at + first;
     let pairs = (first * second) as u32;

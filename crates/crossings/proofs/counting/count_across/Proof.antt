@@ -1,9 +1,9 @@
 -- `counting::count_across` meets its contract. The loop's invariant: the first j places of the second run are compared with the first.
-use Prim.Native.Nat.{_+_, _-_, _*_, _≤_, _<_}
+use Prim.Native.Nat.{_+_, _-_, _*_, _≤_}
 use mathlib.Core.Path.{_≡_, sym, ap, ap₂, _∙_}
 use mathlib.Core.List.{[], _∷_}
 use native.Mathlib.Omega.{arith}
-use lib.ListN.{length, take, drop, length-drop}
+use lib.ListN.{take, drop, length-drop}
 use lib.Seq.{getD-drop}
 use Rattle.tanglegram.specs.Crossings.{across}
 use Rattle.tanglegram.proofs.Sums.{across-nil}
@@ -61,7 +61,8 @@ returns : tie.Need-returns Inv-loop μ-loop
 returns c =
     let a = c .before .before .args in
     let all : c .before .loop .j ≡ a .m = omega arith in
-    c .before .loop .inv .2 ∙ ap (λ i. across falls (take (a .k) (drop (a .at) (a .seen .now))) (take i (drop (a .from) (a .seen .now)))) all
+    let xs = take (a .k) (drop (a .at) (a .seen .now)) in
+    c .before .loop .inv .2 ∙ ap (λ i. across falls xs (take i (drop (a .from) (a .seen .now)))) all
 
 pub count-across-spec : {M : Type 1} → statement M
 count-across-spec =

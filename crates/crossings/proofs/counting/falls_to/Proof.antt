@@ -1,5 +1,5 @@
 -- `counting::falls_to` meets its contract.
-use mathlib.Core.Path.{refl, sym, ap}
+use mathlib.Core.Path.{sym, ap}
 use native.Mathlib.Omega.{arith}
 use borrow.Author.Tests.{lt-ltb, le-ltb}
 use Rattle.tanglegram.specs.Lists.{bit}

@@ -1,10 +1,10 @@
 -- `counting::past_among` meets its contract. The loop's invariant: the first i places of the run are compared.
-use Prim.Native.Nat.{_+_, _-_, _≤_, _<_}
+use Prim.Native.Nat.{_+_, _-_, _≤_}
 use mathlib.Core.Path.{_≡_, refl, sym, ap, ap₂, _∙_}
 use mathlib.Core.List.{[], _∷_}
 use native.Mathlib.Omega.{arith}
 use borrow.Author.Needs.{needs}
-use lib.ListN.{length, take, drop, length-drop}
+use lib.ListN.{take, drop, length-drop}
 use lib.Seq.{getD-drop}
 use Rattle.tanglegram.specs.Crossings.{across}
 use Rattle.crossings.specs.Arrays.{falls}

@@ -1,10 +1,10 @@
 -- `leaves::held_along` meets its contract. The loop's invariant: the first i entries are written over.
-use Prim.Native.Nat.{ℕ, _+_, _-_, _≤_, _<_}
+use Prim.Native.Nat.{ℕ, _-_, _≤_}
 use mathlib.Core.Path.{_≡_, refl, ap, _∙_}
 use native.Mathlib.Numerals.{sub-one}
 use native.Mathlib.Omega.{arith}
 use borrow.Author.Needs.{needs}
-use lib.ListN.{length, getD, set}
+use lib.ListN.{getD, set}
 use Rattle.crossings.specs.Arrays.{Leaf, along, at}
 use Rattle.crossings.proofs.Arrays.{each-at, along-next, along-more}
 use Rattle.crossings.proofs.leaves.held_along.Statement.{statement}

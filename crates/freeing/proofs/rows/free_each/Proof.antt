@@ -1,7 +1,7 @@
 -- `rows::free_each` meets its contract. The loop's invariant: the rows before `row` have their byte after freeing, the others their old
 -- one, and for the objects below n + row it is noted where the far places under them stand.
 use Prim.Native.Nat.{ℕ, _+_, _-_, _≤_, _<_}
-use mathlib.Core.Path.{_≡_, refl, sym, ap, _∙_}
+use mathlib.Core.Path.{_≡_, refl, ap, _∙_, subst}
 use mathlib.Core.List.{List, map}
 use native.Mathlib.Omega.{arith}
 use borrow.Author.Needs.{needs}
@@ -261,7 +261,7 @@ loop-again c =
     let a = s .args in
     let g = c .before .before .gains in
     let freed = freed-more (inverted (at (a .far .now))) (a .walked .now) (a .lay .now) (s .pre .1 .0) (l .loop .lay) (l .loop .row)
-    (l .loop .inv .0) (row-below w) (g .result) (g .ensures ∙ parts-here w .tells) in
+    (l .loop .inv .0) (row-below w) (g .result) (subst (λ b. g .result ≡ b) (parts-here w .tells) (g .ensures)) in
     let noted = noted-more (a .walked .now) (s .pre .0) (a .far .now) (s .pre .1 .1) (seenIn (l .before)) (seen-long-here (l .before))
     (seen-first-here (l .before)) (l .loop .from) (l .loop .many) (l .loop .row) (l .loop .inv .0 .from) (row-below w) (l .loop .inv .1)
     (w .before .before .wide .result) (w .wide2 .result) (w .before .before .wide .ensures) (w .wide2 .ensures) in

@@ -1,6 +1,5 @@
 -- `rows::gains` meets its contract: one of the two ways is counted, and the other is the pairs less that.
 use Prim.Native.Nat.{_*_, _≤_}
-use mathlib.Core.Path.{_≡_}
 use native.Mathlib.Nat.{mul-le-mul}
 use native.Mathlib.Omega.{arith}
 use borrow.Author.Needs.{needs}
