@@ -9,11 +9,11 @@ use native.Mathlib.Numerals.{add-one, sub-one}
 use native.Mathlib.Omega.{arith}
 use lib.ListN.{length, getD, set, take, drop, length-append, length-take, length-drop, length-set, length-map, List·getD-append}
 use lib.Seq.{take-add, drop-cons, getD-take, getD-drop, getD-append-add, append-snoc}
-use lib.Seq.{getD-set-same, getD-set-other, set-at, ext-getD}
+use lib.Seq.{getD-set-same, getD-set-other, set-at, getD-at, take-suc, ext-getD}
 use Rattle.tanglegram.specs.Lists.{Each, Distinct, range, place}
 use Rattle.tanglegram.specs.Crossings.{to}
 use Rattle.tanglegram.proofs.Lists.{each-mem, each-split, pairwise-split, range-each, length-range, mem-range, mem-at}
-use Rattle.crossings.specs.Arrays.{Leaf, OneToN, filled}
+use Rattle.crossings.specs.Arrays.{Leaf, OneToN, along, filled}
 use Rattle.crossings.proofs.OneToOne.{suc-pred, perm-length, perm-leaves, place-leaf, at-place-leaf, place-at-leaf}
 use Rattle.crossings.proofs.Sum.{range-last}
 
@@ -160,3 +160,26 @@ module _ (n : ℕ) (keys : List ℕ) (v : ℕ → ℕ) (found out : List ℕ) (i
       go k (no l) =
           let far : n ≤ k = omega arith in
           w .kept k far ∙ sym (filled-beyond (λ a. v (place (take n keys) a)) n found k far)
+
+-- ---- a list written over from the front
+
+module _ (f : ℕ → ℕ) (xs : List ℕ) (i : ℕ) (h : i < length xs) where
+  over-long : length (map f (take i xs)) ≡ i
+  over-long = simp length-map (omega (arith, length-take i xs))
+
+  over-next : along f i xs ≡ map f (take i xs) ++ getD xs i 0 ∷ drop (suc i) xs
+  over-next = ap (λ l. map f (take i xs) ++ l) (drop-cons xs i 0 h)
+
+  -- the next entry is still as it was
+  pub along-next : getD (along f i xs) i 0 ≡ getD xs i 0
+  along-next = rw over-next (getD-at (map f (take i xs)) (getD xs i 0) (drop (suc i) xs) 0 i over-long)
+
+  pub along-more : set (along f i xs) i (f (getD xs i 0)) ≡ along f (i + 1) xs
+  along-more =
+      let x = getD xs i 0 in
+      let rest = drop (suc i) xs in
+      ap (λ l. set l i (f x)) over-next
+      ∙ set-at (map f (take i xs)) x rest (f x) i over-long
+      ∙ sym (append-snoc (map f (take i xs)) (f x) rest)
+      ∙ ap (λ l. l ++ rest) (sym (map-append f (take i xs) (x ∷ [])))
+      ∙ rw (add-one i, take-suc xs i 0 h) refl

@@ -7,14 +7,14 @@ use native.Mathlib.Nat.{mul-le-mul}
 use native.Mathlib.Numerals.{add-one}
 use native.Mathlib.Omega.{arith}
 use lib.Dec.{ltb}
-use lib.ListN.{length, getD, take, drop, replicate, length-take, length-drop}
-use lib.Seq.{take-suc, getD-drop}
+use lib.ListN.{length, getD, take, replicate, length-take}
+use lib.Seq.{take-suc}
 use Rattle.tanglegram.specs.Lists.{Each, Distinct, range, bit}
 use Rattle.tanglegram.specs.Entanglement.{sum}
 use Rattle.tanglegram.specs.Crossings.{over, across, pairs, inverted}
 use Rattle.tanglegram.proofs.Lists.{each-map, each-zip, distinct-perm}
 use Rattle.tanglegram.proofs.Sums.{over-append, pairs-snoc, pairs-most}
-use Rattle.crossings.specs.Arrays.{at, Linked, OneToN}
+use Rattle.crossings.specs.Arrays.{at, Linked, OneToN, falls}
 use Rattle.crossings.specs.Seen.{markAt, markAll, past, above}
 use Rattle.crossings.proofs.OneToOne.{perm-leaves, perm-each}
 use Rattle.crossings.proofs.Sum.{range-last}
@@ -75,26 +75,37 @@ module _ (far xs : List ℕ) where
       past-words (map R (take k xs)) (R y) (each-mapped (λ p. p < 512) R (take k xs) (each-map (take k xs) (λ a h. h .2) l)) d
       ∙ sym (across-above R (take k xs) y)
 
+-- ---- across two runs
+
 across-append : (w : ℕ → ℕ → ℕ) (xs ys zs : List ℕ) → across w xs (ys ++ zs) ≡ across w xs ys + across w xs zs
 unfolding across
 across-append w [] ys zs = refl
 across-append w (x ∷ xs) ys zs = omega (arith, across-append w xs ys zs, over-append w x ys zs)
 
--- one leaf more in the second list
-across-next : (w : ℕ → ℕ → ℕ) (xs ys : List ℕ) (j : ℕ) → j < length ys →
+-- one more in the first run
+pub across-first : (w : ℕ → ℕ → ℕ) (xs : List ℕ) (j b : ℕ) → j < length xs →
+    across w (take (j + 1) xs) (b ∷ []) ≡ across w (take j xs) (b ∷ []) + w (getD xs j 0) b
+unfolding over
+across-first w xs j b h =
+    rw (add-one j, take-suc xs j 0 h) (omega (arith, across-snoc w (take j xs) (getD xs j 0) (b ∷ [])))
+
+-- one more in the second
+pub across-next : (w : ℕ → ℕ → ℕ) (xs ys : List ℕ) (j : ℕ) → j < length ys →
     across w xs (take (j + 1) ys) ≡ across w xs (take j ys) + across w xs (getD ys j 0 ∷ [])
 across-next w xs ys j h = rw (add-one j, take-suc ys j 0) (across-append w xs (take j ys) (getD ys j 0 ∷ []))
 
--- the crossings of j leaves from place k on with the first k, and one leaf more
-pub across-more : (far xs : List ℕ) (k j : ℕ) → Each (Linked far) (take k xs) → Distinct (map (at far) (take k xs)) → k + j < length xs →
-    across (inverted (at far)) (take k xs) (take j (drop k xs))
-    + past (markAll (replicate 8 0) (map (at far) (take k xs))) (at far (getD xs (k + j) 0))
-    ≡ across (inverted (at far)) (take k xs) (take (j + 1) (drop k xs))
-across-more far xs k j l d h =
-    let old = across (inverted (at far)) (take k xs) (take j (drop k xs)) in
-    ap (λ m. old + m) (past-seen far xs k (getD xs (k + j) 0) l d)
-    ∙ ap (λ y. old + across (inverted (at far)) (take k xs) (y ∷ [])) (sym (getD-drop k xs j 0))
-    ∙ sym (across-next (inverted (at far)) (take k xs) (drop k xs) j (omega (arith, length-drop k xs)))
+-- the far places of leaves fall as the leaves' links cross
+over-falls : (R : ℕ → ℕ) (x : ℕ) (ys : List ℕ) → over falls (R x) (map R ys) ≡ over (inverted R) x ys
+unfolding over
+over-falls R x [] = refl
+over-falls R x (y ∷ ys) = omega (arith, over-falls R x ys)
+
+pub across-falls : (R : ℕ → ℕ) (xs ys : List ℕ) → across falls (map R xs) (map R ys) ≡ across (inverted R) xs ys
+unfolding across
+across-falls R [] ys = refl
+across-falls R (x ∷ xs) ys = omega (arith, over-falls R x ys, across-falls R xs ys)
+
+-- ---- along an order
 
 -- After i leaves of an order of n: their far places are seen, and their crossings counted.
 pub record SeenRun (far order : List ℕ) (n : ℕ) (w : List ℕ) (count i : ℕ) : Type 0 where

@@ -2,6 +2,7 @@
 use Prim.Native.Nat.{ℕ, pred, _≤_, _<_}
 use mathlib.Core.Path.{_≡_}
 use mathlib.Core.List.{List, _++_, map, List·Permᴰ}
+use lib.Dec.{ltb}
 use lib.ListN.{getD, take, drop}
 use Rattle.tanglegram.specs.Lists.{Each, place, range, bit}
 use Rattle.tanglegram.specs.Crossings.{back, crosses}
@@ -26,9 +27,17 @@ Linked far a = (1 ≤ a) × (a ≤ 512) × (at far a < 512)
 abbrev pub filled : (ℕ → ℕ) → ℕ → List ℕ → List ℕ
 filled f n out = map f (range 1 n) ++ drop n out
 
+-- A list with f of each of its first n entries in its place, and beyond them as it was.
+abbrev pub along : (ℕ → ℕ) → ℕ → List ℕ → List ℕ
+along f n xs = map f (take n xs) ++ drop n xs
+
 -- 1 if the links of leaves a and b cross, by the arrays of their left and right places.
 abbrev pub crossAt : List ℕ → List ℕ → ℕ → ℕ → ℕ
 crossAt left far a b = bit (crosses (at left) (at far) a b)
+
+-- 1 if a link that ends at place p crosses one that stands after it and ends at place q.
+abbrev pub falls : ℕ → ℕ → ℕ
+falls p q = bit (ltb q p)
 
 -- Where the link of right leaf c begins on the left, in the left order σ.
 abbrev pub begin : List ℕ → List ℕ → ℕ → ℕ

@@ -7,8 +7,7 @@ ghost use lib.Dec.{ltb};
 ghost use lib.ListN.{length, take, drop};
 ghost use Rattle.tanglegram.specs.Crossings.{across, inverted, pairs};
 ghost use Rattle.tanglegram.specs.Lists.{Distinct, Each, bit, range};
-ghost use Rattle.crossings.specs.Arrays.{Linked, OneToN, at, crossAt};
-ghost use Rattle.crossings.specs.Seen.{markAll};
+ghost use Rattle.crossings.specs.Arrays.{OneToN, at, crossAt, falls};
 use crate::leaves::held;
 use crate::seen::mark;
 use crate::seen::ones_past;
@@ -71,36 +70,37 @@ pub fn count_pairs(left: &[u16; 512], far: &[u16; 512], n: usize) -> u32
     count
 }
 
-// Marks the far places of the first k leaves of a list.
-fn mark_run(w: &mut [u64; 8], leaves: &[u16; 512], k: usize, far: &[u16; 512])
-    requires { ⌜ (k ≤ 512) × (k ≤ length (now leaves)) × Each (Linked (now far)) (take k (now leaves)) ⌝ }
-    ensures { λ _. ⌜ now (w .exit)
-        ≡ markAll (now (w .entry)) (map (at (now (far .entry))) (take k (now (leaves .entry)))) ⌝ }
+// 1 if place q is before p, else 0.
+fn falls_to(p: u16, q: u16) -> u16
+    ensures { λ r. ⌜ (r ≡ falls p q) × (r ≤ 1) ⌝ }
 {
-    let mut i = 0;
-    while i < k {
-        let p = held(far, leaves[i]);
-        mark(w, p);
-        i += 1;
-    }
+    if q < p { 1 } else { 0 }
 }
 
-// The crossings between two runs of leaves, the first entries of a list and the next: the far places of the first run
-// are seen, and for each leaf of the second those past its own are counted.
-pub fn count_across(leaves: &[u16; 512], first: usize, second: usize, far: &[u16; 512]) -> u32
-    requires { ⌜ (first + second ≤ 512) × (first + second ≤ length (now leaves)) ⌝ }
-    requires { ⌜ Each (Linked (now far)) (take (first + second) (now leaves)) ⌝ }
-    requires { ⌜ Distinct (map (at (now far)) (take first (now leaves))) ⌝ }
-    ensures { λ r. ⌜ r ≡ across (inverted (at (now (far .entry)))) (take first (now (leaves .entry)))
-        (take second (drop first (now (leaves .entry)))) ⌝ }
+// How many of the k places that stand in an array from index `at` on are past q.
+fn past_among(seen: &[u16; 512], at: usize, k: usize, q: u16) -> u16
+    requires { ⌜ (at + k ≤ 512) × (length (now seen) ≡ 512) ⌝ }
+    ensures { λ r. ⌜ (r ≡ across falls (take k (drop at (now (seen .entry)))) (q ∷ [])) × (r ≤ 512) ⌝ }
 {
-    let mut w = [0u64; 8];
-    mark_run(&mut w, leaves, first, far);
+    let mut count: u16 = 0;
+    let mut i = 0;
+    while i < k {
+        count += falls_to(seen[at + i], q);
+        i += 1;
+    }
+    count
+}
+
+// The crossings between two runs of links, pair by pair: an array has their far places, k of the first run from index
+// `at` on and m of the second from index `from` on.
+pub fn count_across(seen: &[u16; 512], at: usize, k: usize, from: usize, m: usize) -> u32
+    requires { ⌜ (at + k ≤ 512) × (from + m ≤ 512) × (length (now seen) ≡ 512) ⌝ }
+    ensures { λ r. ⌜ r ≡ across falls (take k (drop at (now (seen .entry)))) (take m (drop from (now (seen .entry)))) ⌝ }
+{
     let mut count: u32 = 0;
     let mut j = 0;
-    while j < second {
-        let p = held(far, leaves[first + j]);
-        count += ones_past(&w, p);
+    while j < m {
+        count += past_among(seen, at, k, seen[from + j]) as u32;
         j += 1;
     }
     count

@@ -4,7 +4,7 @@ ghost use Prim.Native.Nat.{_≤_};
 ghost use lib.ListN.{length, take};
 ghost use Rattle.tanglegram.specs.Crossings.{back, to};
 ghost use Rattle.tanglegram.specs.Lists.{place, range, Each};
-ghost use Rattle.crossings.specs.Arrays.{OneToN, Leaf, at, filled};
+ghost use Rattle.crossings.specs.Arrays.{OneToN, Leaf, along, at, filled};
 
 // An entry as an index.
 fn wide(x: u16) -> usize
@@ -59,6 +59,19 @@ pub fn near_ends(links: &[u16; 512], places: &[u16; 512], n: usize, out: &mut [u
     while i < n {
         let c = wide(links[i]);
         out[c - 1] = places[i];
+        i += 1;
+    }
+}
+
+// Writes over each of the first n leaves of a list what an array by leaf holds for it.
+pub fn held_along(xs: &[u16; 512], n: usize, list: &mut [u16; 512])
+    requires { ⌜ (n ≤ 512) × (n ≤ length (now list)) × Each (Leaf 512) (take n (now list)) ⌝ }
+    ensures { λ _. ⌜ now (list .exit) ≡ along (at (now (xs .entry))) n (now (list .entry)) ⌝ }
+{
+    let mut i = 0;
+    while i < n {
+        let a = wide(list[i]);
+        list[i] = xs[a - 1];
         i += 1;
     }
 }

@@ -11,5 +11,6 @@ pub use counting::count_seen;
 pub use entangled::displaced;
 pub use entangled::worst_value;
 pub use leaves::far_ends;
+pub use leaves::held_along;
 pub use leaves::near_ends;
 pub use leaves::places;

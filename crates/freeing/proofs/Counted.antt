@@ -1,47 +1,36 @@
--- A row's leaves as they are walked into a buffer, those under its first entry and then those under its second: what is asked before
--- the two runs are counted, their crossings, and that both ways together are as many as the pairs.
-use Prim.Native.Nat.{ℕ, _+_, _-_, _*_, _≤_, _<_}
-use mathlib.Core.Path.{_≡_, refl, ap, ap₂, _∙_}
+-- A row's two parts, by the far places of their leaves' links in an array of those of all leaves, in the tree's order: where they stand
+-- there, that both ways together are as many as the pairs, and that comparing the two ways tells whether turning the row over gains.
+use Prim.Native.Nat.{ℕ, zero, suc, _+_, _-_, _*_, _≤_, _<_}
+use mathlib.Core.Path.{_≡_, refl, sym, ap, ap₂, _∙_, subst}
 use mathlib.Core.Logic.{_≢_}
-use mathlib.Core.List.{List, map, List·Permᴰ, Permᴰ·symm, Permᴰ·map}
-use native.Mathlib.Decide.{decLe}
-use native.Mathlib.Nat.{le-refl, mul-add, mul-comm, mul-le-mul}
+use mathlib.Core.List.{List, [], _∷_, _++_, map, map-append, List·Permᴰ, Permᴰ·symm, Permᴰ·map}
+use native.Mathlib.Decide.{ℕ-discrete}
 use native.Mathlib.Omega.{arith}
 use lib.Dec.{ltb}
-use lib.ListN.{length, getD, take, drop}
-use lib.Seq.{sets, length-sets}
-use Rattle.tanglegram.specs.Lists.{Each, Distinct, range}
-use Rattle.tanglegram.specs.Tree.{leaves}
+use lib.ListN.{length, getD, set, take, drop, replicate, length-append, length-map, length-set, length-replicate, getD-replicate}
+use lib.Seq.{drop-cons, getD-take, getD-set-same, getD-set-other}
+use Rattle.tanglegram.specs.Lists.{Distinct, range, place}
+use Rattle.tanglegram.specs.Tree.{Tree, leaf, fork, leaves}
 use Rattle.tanglegram.specs.Crossings.{across, inverted, between}
-use Rattle.tanglegram.proofs.Lists.{each-append, distinct-perm, each-zip}
-use Rattle.tanglegram.proofs.Tree.{each-under, leaves-once}
+use Rattle.tanglegram.proofs.Lists.{distinct-perm, mem-perm, mem-range, place-below}
+use Rattle.tanglegram.proofs.Tree.{object-fork, leaves-once}
 use Rattle.tanglegram.proofs.Turning.{leaf-product}
 use Rattle.trees.specs.Rows.{upper, lower, size, objectOf, treeOf, Good}
 use Rattle.trees.proofs.Table.{upper-place, lower-place}
-use Rattle.trees.proofs.Walked.{length-leaves}
-use Rattle.crossings.specs.Arrays.{at, Linked}
-use Rattle.crossings.proofs.OneToOne.{perm-leaves, perm-each}
-use Rattle.freeing.specs.Row.{Apart, standing, turnedOver}
-use Rattle.freeing.proofs.Written.{take-both, take-first, take-second}
-use Rattle.freeing.proofs.Under.{length-under, distinct-under, pairwise-unmapped, row-at}
+use Rattle.trees.proofs.Walked.{length-leaves, leaves-leaf}
+use Rattle.crossings.specs.Arrays.{at, falls}
+use Rattle.crossings.proofs.OneToOne.{at-place-leaf}
+use Rattle.crossings.proofs.Runs.{across-falls}
+use Rattle.freeing.specs.Row.{Apart, standing, turnedOver, gain, asItStands, theOther}
+use Rattle.freeing.proofs.Under.{pairwise-unmapped, row-at}
+use Rattle.freeing.proofs.Stands.{Stands, Somewhere, stands-both, somewhere-under, together}
 
--- two runs that are at most 512 leaves together have at most 65,536 pairs
-product-most : (a b : ℕ) → a + b ≤ 512 → a * b ≤ 65536
-product-most a b h = go (decLe a 256)
-  where
-    less : (x y : ℕ) → x ≤ 256 → x + y ≤ 512 → x * y ≤ 65536
-    less x y l h =
-        let d = 256 - x in
-        let k : y ≤ 256 + d = omega arith in
-        omega (arith, mul-le-mul (le-refl x) k, mul-add x 256 d, mul-le-mul l (le-refl d))
-
-    go : Dec (a ≤ 256) → a * b ≤ 65536
-    go (yes l) = less a b l h
-    go (no l) = rw (mul-comm a b) (less b a (omega arith) (omega arith))
-
--- turned over there are as many crossings as pairs less those as it stands, so fewer by that test
+-- the other way there are as many crossings as pairs less those one way, so fewer by that test
 pub fewer : (c a b pairs : ℕ) → c ≡ a → a + b ≡ pairs → ltb (pairs - c) c ≡ ltb b a
 fewer c a b pairs e f = let g : pairs - c ≡ b = omega arith in ap₂ ltb g e
+
+pub fewer-other : (c a b pairs : ℕ) → c ≡ b → a + b ≡ pairs → ltb c (pairs - c) ≡ ltb b a
+fewer-other c a b pairs e f = let g : pairs - c ≡ a = omega arith in ap₂ ltb e g
 
 -- ---- a row's two entries, by the places that the code reads
 
@@ -58,111 +47,189 @@ module _ (W : List ℕ) (i : ℕ) (p : 1 ≤ i) where
   second-entry : secondEntry W i ≡ lower W i
   second-entry = ap (λ k. getD W k 0) (lower-place i p)
 
--- ---- the row walked
+-- they are objects made before
+module _ (W : List ℕ) (good : Good W) (i : ℕ) (p : 1 ≤ i) (q : i < size W) where
+  pub first-below : (1 ≤ firstEntry W i) × (firstEntry W i < size W + i)
+  first-below = let c = good .rule i p q in rw (first-entry W i p) (omega arith)
 
--- the leaves under row i's two entries stand in a buffer, `first` and then `second`
-pub record Walked (far W : List ℕ) (i first second : ℕ) (buf : List ℕ) : Type 0 where
-  pub fits : first + second ≤ 512
-  pub few : first * second ≤ 65536
-  pub long : length buf ≡ 512
-  pub linked : Each (Linked far) (take (first + second) buf)
-  pub distinct : Distinct (map (at far) (take first buf))
-  pub crossings : across (inverted (at far)) (take first buf) (take second (drop first buf)) ≡ standing (inverted (at far)) W i
-  pub both-ways : standing (inverted (at far)) W i + turnedOver (inverted (at far)) W i ≡ first * second
+  pub second-below : (1 ≤ secondEntry W i) × (secondEntry W i < size W + i)
+  second-below = let c = good .rule i p q in rw (second-entry W i p) (omega arith)
 
-module _ (W : List ℕ) (good : Good W) where
+-- ---- the far places under each object
+
+abbrev pub farUnder : List ℕ → List ℕ → ℕ → List ℕ
+farUnder far W o = map (at far) (leaves (objectOf W o))
+
+some-leaf : (t : Tree) → 1 ≤ length (leaves t)
+unfolding leaves
+some-leaf (leaf a) = omega arith
+some-leaf (fork i u l) = omega (arith, some-leaf u, length-append (leaves u) (leaves l))
+
+-- where they stand is noted for the objects below `top`
+pub record Noted (far W seen from many : List ℕ) (top : ℕ) : Type 0 where
+  pub from-long : length from ≡ 1024
+  pub many-long : length many ≡ 1024
+  pub noted : (o : ℕ) → 1 ≤ o → o < top → Stands seen (size W) (farUnder far W o) (getD from o 0) (getD many o 0)
+
+-- a row's two parts, one after the other
+pub record Parts (far W seen : List ℕ) (i k first second : ℕ) : Type 0 where
+  pub fits : k + first + second ≤ size W
+  pub both-ways : asItStands seen k first second + theOther seen k first second ≡ first * second
+  pub tells : ltb (theOther seen k first second) (asItStands seen k first second) ≡ gain (inverted (at far)) W i
+
+getD-mapped : (f : ℕ → ℕ) (xs : List ℕ) (k : ℕ) → k < length xs → getD (map f xs) k 0 ≡ f (getD xs k 0)
+getD-mapped f [] k h = absurd (omega arith)
+getD-mapped f (x ∷ xs) zero h = refl
+getD-mapped f (x ∷ xs) (suc k) h = getD-mapped f xs k (omega arith)
+
+module _ (W : List ℕ) (good : Good W) (far : List ℕ) (apart : Apart (size W) far) where
   -- each leaf stands once in the tree
   once : List·Permᴰ (leaves (treeOf W)) (range 1 (size W))
   once = leaves-once (size W) (upper W) (lower W) (good .rule) (good .some)
 
-  -- the leaves under both entries are at most n
-  row-length : (i : ℕ) → 1 ≤ i → i < size W →
-      length (leaves (objectOf W (upper W i))) + length (leaves (objectOf W (lower W i))) ≤ size W
-  row-length =
-      row-at W good (λ i u l. length (leaves u) + length (leaves l) ≤ size W)
-      (length-under (treeOf W) (size W) (omega (arith, length-leaves W good)))
+  -- no two links end at one place
+  distinct-leaves : Distinct (map (at far) (leaves (treeOf W)))
+  distinct-leaves = distinct-perm (Permᴰ·symm (Permᴰ·map (at far) once)) (apart .1)
 
-  -- so both can be walked into a buffer of 512
-  pub first-made : (i : ℕ) → 1 ≤ i → i < size W → (1 ≤ firstEntry W i) × (firstEntry W i < 2 * size W)
-  first-made i p q = let c = good .rule i p q in rw (first-entry W i p) (omega arith)
+  -- both ways together are the leaf product
+  row-product : (i : ℕ) → 1 ≤ i → i < size W →
+      standing (inverted (at far)) W i + turnedOver (inverted (at far)) W i
+      ≡ length (leaves (objectOf W (upper W i))) * length (leaves (objectOf W (lower W i)))
+  row-product =
+      let w = inverted (at far) in
+      row-at W good (λ i u l. between w u l + between w l u ≡ length (leaves u) * length (leaves l))
+      (leaf-product (at far) (treeOf W) (pairwise-unmapped (λ x y. x ≢ y) (at far) (leaves (treeOf W)) distinct-leaves))
 
-  pub second-made : (i : ℕ) → 1 ≤ i → i < size W → (1 ≤ secondEntry W i) × (secondEntry W i < 2 * size W)
-  second-made i p q = let c = good .rule i p q in rw (second-entry W i p) (omega arith)
+  -- the object that a row makes
+  far-fork : (i : ℕ) → 1 ≤ i → i < size W →
+      farUnder far W (size W + i) ≡ farUnder far W (upper W i) ++ farUnder far W (lower W i)
+  unfolding leaves
+  far-fork i p q =
+      ap (λ t. map (at far) (leaves t)) (object-fork (size W) (upper W) (lower W) (good .rule) i p q)
+      ∙ map-append (at far) (leaves (objectOf W (upper W i))) (leaves (objectOf W (lower W i)))
 
-  pub both-fit : (i : ℕ) → 1 ≤ i → i < size W →
-      length (leaves (objectOf W (firstEntry W i))) + length (leaves (objectOf W (secondEntry W i))) ≤ 512
-  both-fit i p q =
-      let most = good .most in
-      rw (first-entry W i p, second-entry W i p) (omega (arith, row-length i p q))
+  module _ (seen : List ℕ) (long : length seen ≡ 512) (is : take (size W) seen ≡ map (at far) (leaves (treeOf W))) where
+    room : size W ≤ length seen
+    room = let most = good .most in omega arith
 
-  -- ---- and counted
+    seen-apart : Distinct (take (size W) seen)
+    seen-apart = rw is distinct-leaves
 
-  module _ (far : List ℕ) (apart : Apart (size W) far) where
-    -- each leaf of the tree has a link
-    linked-leaves : Each (Linked far) (leaves (treeOf W))
-    linked-leaves =
-        let most = good .most in
-        let ls = leaves (treeOf W) in
-        each-zip ls (λ a l b. (l .0, omega (arith, l .1), b)) (perm-leaves (size W) ls once)
-        (perm-each (size W) ls once (λ a. at far a < 512) (apart .0))
+    all-long : length (map (at far) (leaves (treeOf W))) ≡ size W
+    all-long = simp length-map (length-leaves W good)
 
-    row-linked : (i : ℕ) → 1 ≤ i → i < size W →
-        Each (Linked far) (leaves (objectOf W (upper W i))) × Each (Linked far) (leaves (objectOf W (lower W i)))
-    row-linked =
-        row-at W good (λ i u l. Each (Linked far) (leaves u) × Each (Linked far) (leaves l))
-        (each-under (Linked far) (treeOf W) linked-leaves)
+    row-somewhere : (i : ℕ) → 1 ≤ i → i < size W →
+        Somewhere seen (size W) (farUnder far W (upper W i) ++ farUnder far W (lower W i))
+    row-somewhere =
+        row-at W good (λ i u l. Somewhere seen (size W) (map (at far) (leaves u) ++ map (at far) (leaves l)))
+        (somewhere-under seen (size W) room (at far) (treeOf W) (record {
+          from = 0;
+          stands = record { many = refl; within = omega (arith, all-long); stand = ap (λ m. take m seen) all-long ∙ is };
+        }))
 
-    -- no two links end at one place
-    distinct-leaves : Distinct (map (at far) (leaves (treeOf W)))
-    distinct-leaves = distinct-perm (Permᴰ·symm (Permᴰ·map (at far) once)) (apart .1)
+    -- ---- each leaf
 
-    row-distinct : (i : ℕ) → 1 ≤ i → i < size W →
-        Distinct (map (at far) (leaves (objectOf W (upper W i)))) × Distinct (map (at far) (leaves (objectOf W (lower W i))))
-    row-distinct =
-        row-at W good (λ i u l. Distinct (map (at far) (leaves u)) × Distinct (map (at far) (leaves l)))
-        (distinct-under (at far) (treeOf W) distinct-leaves)
+    leaf-stands : (v : ℕ) → 1 ≤ v → v ≤ size W → Stands seen (size W) (farUnder far W v) (place (leaves (treeOf W)) v) 1
+    leaf-stands v p q =
+        let O = leaves (treeOf W) in
+        let k = place O v in
+        let n = length-leaves W good in
+        let below = place-below O v (mem-perm (Permᴰ·symm once) (mem-range v 1 (size W) p (omega arith))) in
+        let here : getD seen k 0 ≡ at far v =
+        sym (getD-take (size W) seen k 0 (omega arith)) ∙ ap (λ l. getD l k 0) is ∙ getD-mapped (at far) O k below
+        ∙ ap (at far) (at-place-leaf (size W) O once v (p, q)) in
+        let one : farUnder far W v ≡ at far v ∷ [] = ap (map (at far)) (leaves-leaf W good v q) in record {
+          many = ap length (sym one);
+          within = omega arith;
+          stand = ap (take 1) (drop-cons seen k 0 (omega (arith, room))) ∙ ap (λ x. x ∷ []) here ∙ sym one;
+        }
 
-    -- both ways together are the leaf product
-    row-product : (i : ℕ) → 1 ≤ i → i < size W →
-        standing (inverted (at far)) W i + turnedOver (inverted (at far)) W i
-        ≡ length (leaves (objectOf W (upper W i))) * length (leaves (objectOf W (lower W i)))
-    row-product =
-        let w = inverted (at far) in
-        row-at W good (λ i u l. between w u l + between w l u ≡ length (leaves u) * length (leaves l))
-        (leaf-product (at far) (treeOf W) (pairwise-unmapped (λ x y. x ≢ y) (at far) (leaves (treeOf W)) distinct-leaves))
-
-    module _ (i : ℕ) (p : 1 ≤ i) (q : i < size W) (out : List ℕ) (long : length out ≡ 512) where
-      abbrev firsts : List ℕ
-      firsts = leaves (objectOf W (upper W i))
-
-      abbrev seconds : List ℕ
-      seconds = leaves (objectOf W (lower W i))
-
-      both-walked : Walked far W i (length firsts) (length seconds) (sets (sets out 0 firsts) (0 + length firsts) seconds)
-      both-walked =
+    pub noted-leaves : (from : List ℕ) → length from ≡ 1024 →
+        ((v : ℕ) → v ≤ size W → getD from v 0 ≡ place (leaves (treeOf W)) v) →
+        Noted far W seen from (replicate {A = ℕ} 1024 1) (size W + 1)
+    noted-leaves from h e = record {
+      from-long = h;
+      many-long = length-replicate {A = ℕ} 1024 1;
+      noted = λ o p q.
           let most = good .most in
-          let n = row-length i p q in
-          let room : length firsts + length seconds ≤ length out = omega arith in
-          let links = row-linked i p q in record {
-            fits = omega arith;
-            few = product-most (length firsts) (length seconds) (omega arith);
-            long = length-sets (sets out 0 firsts) (0 + length firsts) seconds ∙ length-sets out 0 firsts ∙ long;
-            linked = rw (take-both firsts seconds out room) (each-append (Linked far) firsts seconds (links .0) (links .1));
-            distinct = rw (take-first firsts seconds out room) (row-distinct i p q .0);
-            crossings = ap₂ (across (inverted (at far))) (take-first firsts seconds out room) (take-second firsts seconds out room);
-            both-ways = row-product i p q;
+          rw (e o (omega arith), getD-replicate {A = ℕ} 1024 o 1 0 (omega arith)) (leaf-stands o p (omega arith));
+    }
+
+    -- ---- one row more
+
+    module _ (from many : List ℕ) (i : ℕ) (p : 1 ≤ i) (q : i < size W) (before : Noted far W seen from many (size W + i))
+        (a b : ℕ) (is-a : a ≡ firstEntry W i) (is-b : b ≡ secondEntry W i) where
+      abbrev us : List ℕ
+      us = farUnder far W (upper W i)
+
+      abbrev ls : List ℕ
+      ls = farUnder far W (lower W i)
+
+      abbrev k : ℕ
+      k = getD from a 0
+
+      abbrev first : ℕ
+      first = getD many a 0
+
+      abbrev second : ℕ
+      second = getD many b 0
+
+      first-stands : Stands seen (size W) us k first
+      first-stands =
+          let below : (1 ≤ a) × (a < size W + i) = rw is-a (first-below W good i p q) in
+          subst (λ o. Stands seen (size W) (farUnder far W o) k first) (is-a ∙ first-entry W i p) (before .noted a (below .0) (below .1))
+
+      second-stands : Stands seen (size W) ls (getD from b 0) second
+      second-stands =
+          let below : (1 ≤ b) × (b < size W + i) = rw is-b (second-below W good i p q) in
+          subst (λ o. Stands seen (size W) (farUnder far W o) (getD from b 0) second) (is-b ∙ second-entry W i p)
+          (before .noted b (below .0) (below .1))
+
+      both-stand : Stands seen (size W) (us ++ ls) k (first + second)
+      both-stand =
+          let some : 1 ≤ length us = simp length-map (some-leaf (objectOf W (upper W i))) in
+          rw (first-stands .many, second-stands .many)
+          (together seen (size W) room seen-apart us ls k first first-stands some (row-somewhere i p q))
+
+      pub parts : Parts far W seen i k first second
+      parts =
+          let w = inverted (at far) in
+          let m = first-stands .many in
+          let each = stands-both seen (size W) room us ls k (first + second) both-stand in
+          let one : take first (drop k seen) ≡ us = rw m (each .0 .stand) in
+          let two : take second (drop (k + first) seen) ≡ ls = rw (m, second-stands .many) (each .1 .stand) in
+          let stands : asItStands seen k first second ≡ standing w W i =
+          ap₂ (across falls) one two ∙ across-falls (at far) (leaves (objectOf W (upper W i))) (leaves (objectOf W (lower W i))) in
+          let other : theOther seen k first second ≡ turnedOver w W i =
+          ap₂ (across falls) two one ∙ across-falls (at far) (leaves (objectOf W (lower W i))) (leaves (objectOf W (upper W i))) in
+          record {
+            fits = omega (arith, both-stand .within);
+            both-ways =
+                ap₂ _+_ stands other ∙ row-product i p q
+                ∙ sym (ap₂ _*_ (m ∙ simp length-map refl) (second-stands .many ∙ simp length-map refl));
+            tells = ap₂ ltb other stands;
           }
 
-      -- as the two walks leave them
-      pub row-walked : (first both : ℕ) (one two : List ℕ) →
-          first ≡ 0 + length (leaves (objectOf W (firstEntry W i))) → one ≡ sets out 0 (leaves (objectOf W (firstEntry W i))) →
-          both ≡ first + length (leaves (objectOf W (secondEntry W i))) → two ≡ sets one first (leaves (objectOf W (secondEntry W i))) →
-          Walked far W i first (both - first) two
-      row-walked first both one two is-first is-one is-both is-two =
-          let a = ap (λ k. leaves (objectOf W k)) (first-entry W i p) in
-          let b = ap (λ k. leaves (objectOf W k)) (second-entry W i p) in
-          let m : first ≡ length firsts = omega (arith, ap length a) in
-          let k : both - first ≡ length seconds = omega (arith, ap length b) in
-          let written : two ≡ sets (sets out 0 firsts) (0 + length firsts) seconds =
-          is-two ∙ rw (is-one, is-first, a, b) refl in
-          rw (written, k, m) both-walked
+      pub noted-more :
+          Noted far W seen (set from (size W + i) k) (set many (size W + i) (first + second)) (size W + (i + 1))
+      noted-more = record {
+        from-long = simp length-set (before .from-long);
+        many-long = simp length-set (before .many-long);
+        noted = λ o c d. go o c d (ℕ-discrete o (size W + i));
+      }
+        where
+          go : (o : ℕ) → 1 ≤ o → o < size W + (i + 1) → Dec (o ≡ size W + i) →
+              Stands seen (size W) (farUnder far W o) (getD (set from (size W + i) k) o 0) (getD (set many (size W + i) (first + second)) o 0)
+          go o c d (yes e) =
+              let most = good .most in
+              let f = before .from-long in
+              let g = before .many-long in
+              rw (
+                e,
+                getD-set-same from (size W + i) k 0 (omega arith),
+                getD-set-same many (size W + i) (first + second) 0 (omega arith),
+                far-fork i p q,
+              ) both-stand
+          go o c d (no e) =
+              rw (getD-set-other from (size W + i) o k 0 e, getD-set-other many (size W + i) o (first + second) 0 e)
+              (before .noted o c (omega arith))

@@ -1,5 +1,6 @@
 pub mod Under
-pub mod Written
+pub mod Seen
+pub mod Stands
 pub mod Counted
 pub mod Chosen
 pub mod Freed

@@ -1,34 +1,13 @@
--- The leaves under a row's two children, for each row of a tree and for each row of a table by its number: how many they are, and
--- what holds of all leaves holds of them.
+-- What holds at each row of a tree holds of each row of a table by its number.
 use Prim.Native.Nat.{ℕ, pred, _+_, _≤_, _<_}
 use mathlib.Core.Path.{_≡_, refl}
-use mathlib.Core.Logic.{_≢_}
-use mathlib.Core.List.{List, [], _∷_, map, map-append}
+use mathlib.Core.List.{List, [], _∷_, map}
 use native.Mathlib.Omega.{arith}
-use lib.ListN.{length, length-append}
-use Rattle.tanglegram.specs.Lists.{Each, Pairwise, Distinct}
-use Rattle.tanglegram.specs.Tree.{Tree, leaf, fork, leaves, rows, EachRow}
-use Rattle.tanglegram.proofs.Lists.{each-append, each-mem, each-perm, mem-range, pairwise-split}
+use Rattle.tanglegram.specs.Lists.{Each, Pairwise}
+use Rattle.tanglegram.specs.Tree.{Tree, leaf, fork, rows, EachRow}
+use Rattle.tanglegram.proofs.Lists.{each-append, each-mem, each-perm, mem-range}
 use Rattle.tanglegram.proofs.Tree.{eachRow-zip, rows-each, rows-once}
 use Rattle.trees.specs.Rows.{upper, lower, size, objectOf, treeOf, Good}
-
--- ---- each row of a tree
-
-pub length-under : (t : Tree) (m : ℕ) → length (leaves t) ≤ m → EachRow (λ i u l. length (leaves u) + length (leaves l) ≤ m) t
-unfolding leaves
-length-under (leaf a) m h = tt
-length-under (fork i u l) m h =
-    let e = length-append (leaves u) (leaves l) in
-    (omega arith, length-under u m (omega arith), length-under l m (omega arith))
-
--- leaves that are different under f
-pub distinct-under : (f : ℕ → ℕ) (t : Tree) → Distinct (map f (leaves t)) →
-    EachRow (λ i u l. Distinct (map f (leaves u)) × Distinct (map f (leaves l))) t
-unfolding leaves
-distinct-under f (leaf a) d = tt
-distinct-under f (fork i u l) d =
-    let s = pairwise-split (λ x y. x ≢ y) (map f (leaves u)) (map f (leaves l)) (rw map-append at d) in
-    ((s .0, s .1), distinct-under f u (s .0), distinct-under f l (s .1))
 
 -- ---- entries under a function
 

@@ -1,15 +1,15 @@
 -- The rows of a side that is freed: what is asked of the links, whether turning a row over gains, and its byte afterwards.
-use Prim.Native.Nat.{ℕ, _≤_, _<_}
+use Prim.Native.Nat.{ℕ, _+_, _≤_, _<_}
 use mathlib.Core.Path.{_≡_}
 use mathlib.Core.Bool.{Bool, cond, _&&_}
 use mathlib.Core.List.{List, map}
 use lib.Dec.{ltb}
-use lib.ListN.{length}
+use lib.ListN.{length, take, drop}
 use Rattle.tanglegram.specs.Lists.{Each, Distinct, range}
 use Rattle.tanglegram.specs.Order.{byte, mayChange, flip}
-use Rattle.tanglegram.specs.Crossings.{between}
+use Rattle.tanglegram.specs.Crossings.{across, between}
 use Rattle.trees.specs.Rows.{upper, lower, size, objectOf}
-use Rattle.crossings.specs.Arrays.{at}
+use Rattle.crossings.specs.Arrays.{at, falls}
 
 -- The links of leaves 1 to n end at places below 512, each at another, by the array of these places.
 abbrev pub Apart : ℕ → List ℕ → Type 0
@@ -25,6 +25,14 @@ turnedOver w T i = between w (objectOf T (lower T i)) (objectOf T (upper T i))
 -- Turning row i over makes them strictly fewer.
 abbrev pub gain : (ℕ → ℕ → ℕ) → List ℕ → ℕ → Bool
 gain w T i = ltb (turnedOver w T i) (standing w T i)
+
+-- The crossings of two runs of links by their far places, `first` of them from index `at` on and `second` right after: as they stand, and
+-- the other way round.
+abbrev pub asItStands : List ℕ → ℕ → ℕ → ℕ → ℕ
+asItStands seen at first second = across falls (take first (drop at seen)) (take second (drop (at + first) seen))
+
+abbrev pub theOther : List ℕ → ℕ → ℕ → ℕ → ℕ
+theOther seen at first second = across falls (take second (drop (at + first) seen)) (take first (drop at seen))
 
 -- A row's byte after freeing, from its present byte and whether turning it over gains: `choose` of `tanglegram` is this at its test.
 abbrev pub byteAfter : ℕ → Bool → ℕ

@@ -1,18 +1,21 @@
 // Freeing a side row by row: a row is turned over exactly if that makes its own crossings strictly fewer. A row's own
 // crossings don't depend on the turnings of other rows, so each is decided in a table with the old layout applied.
 ghost use mathlib.Core.Path.{_≡_};
-ghost use Prim.Native.Nat.{_+_, _≤_, _<_};
+ghost use Prim.Native.Nat.{_+_, _*_, _≤_};
+ghost use lib.Dec.{ltb};
 ghost use lib.ListN.{length};
 ghost use Rattle.tanglegram.specs.Crossings.{inverted};
 ghost use Rattle.tanglegram.specs.Order.{flip};
 ghost use Rattle.tanglegram.specs.Freeing.{freed};
 ghost use Rattle.trees.specs.Rows.{Good, size, treeOf};
 ghost use Rattle.crossings.specs.Arrays.{at};
-ghost use Rattle.freeing.specs.Row.{Apart, gain, byteAfter, Frees};
+ghost use Rattle.freeing.specs.Row.{Apart, asItStands, byteAfter, Frees, theOther};
 use crossings::count_across;
+use crossings::held_along;
 use trees::exchange;
 use trees::is_turned;
-use trees::walk;
+use trees::leaf_order;
+use trees::note_places;
 
 // The byte that turns over a row whose byte is x.
 fn flipped(x: u8) -> u8
@@ -28,28 +31,37 @@ fn freed_byte(x: u8, gain: bool) -> u8
     if gain { flipped(x) } else { x }
 }
 
-// Whether a row of a table has strictly fewer own crossings turned over than as it stands. Each pair of a leaf under
-// its first entry and one under its second crosses in just one of the two arrangements. The leaves are at most 512
-// together, so the pairs are at most 65,536, and so are the crossings.
-fn gains(walked: &[u16; 1023], far: &[u16; 512], row: usize, buf: &mut [u16; 512]) -> bool
-    requires { ⌜ Good (now walked) ⌝ }
-    requires { ⌜ (1 ≤ row) × (row < size (now walked)) ⌝ }
-    requires { ⌜ Apart (size (now walked)) (now far) ⌝ }
-    requires { ⌜ length (now buf) ≡ 512 ⌝ }
-    ensures { λ r. ⌜ r ≡ gain (inverted (at (now (far .entry)))) (now (walked .entry)) row ⌝ }
-    ensures { λ _. ⌜ length (now (buf .exit)) ≡ 512 ⌝ }
+// An entry as an index.
+fn wide(x: u16) -> usize
+    ensures { λ r. ⌜ r ≡ x ⌝ }
 {
-    let a = walked[2 * row - 2];
-    let b = walked[2 * row - 1];
-    let first = walk(walked, a, buf, 0);
-    let both = walk(walked, b, buf, first);
-    let second = both - first;
-    let pairs = (first * second) as u32;
-    let count = count_across(buf, first, second, far);
-    pairs - count < count
+    x as usize
 }
 
-// Gives each row its byte after freeing, by its own crossings in a table that has the layout applied.
+// Whether a row has strictly fewer own crossings turned over than as it stands. The far places of the leaves under its
+// first entry stand in `seen` from index `at` on, and those under its second entry right after them. Each pair of one
+// and the other crosses in just one of the two arrangements, so that counting one is enough: the one whose outer loop
+// goes over the shorter run.
+fn gains(seen: &[u16; 512], at: usize, first: usize, second: usize) -> bool
+    requires { ⌜ (at + first + second ≤ 512) × (length (now seen) ≡ 512) ⌝ }
+    requires { ⌜ asItStands (now seen) at first second + theOther (now seen) at first second ≡ first * second ⌝ }
+    ensures { λ r. ⌜
+        r ≡ ltb (theOther (now (seen .entry)) at first second) (asItStands (now (seen .entry)) at first second)
+        ⌝ }
+{
+    let next = at + first;
+    let pairs = (first * second) as u32;
+    if second <= first {
+        let count = count_across(seen, at, first, next, second);
+        return pairs - count < count;
+    }
+    let other = count_across(seen, next, second, at, first);
+    other < pairs - other
+}
+
+// Gives each row its byte after freeing, by its own crossings in a table that has the layout applied. The leaves under
+// an object stand side by side in the tree's order: `from` has the first one's place and `many` how many they are, for
+// each leaf and for each object whose row has been freed.
 fn free_each(walked: &[u16; 1023], far: &[u16; 512], lay: &mut [u8])
     requires { ⌜ Good (now walked) ⌝ }
     requires { ⌜ length (now lay) + 1 ≡ size (now walked) ⌝ }
@@ -57,11 +69,24 @@ fn free_each(walked: &[u16; 1023], far: &[u16; 512], lay: &mut [u8])
     ensures { λ _. ⌜ Frees (inverted (at (now (far .entry)))) (now (walked .entry)) (now (lay .entry))
         (now (lay .exit)) ⌝ }
 {
-    let mut buf = [0u16; 512];
+    let n = walked[1022];
+    let mut seen = [0u16; 512];
+    leaf_order(walked, &mut seen);
+    let mut from = [n; 1024];
+    note_places(&seen, n, &mut from);
+    held_along(far, n as usize, &mut seen);
+    let mut many = [1u16; 1024];
     let mut row = 1;
     while row <= lay.len() {
-        let gain = gains(walked, far, row, &mut buf);
+        let a = wide(walked[2 * row - 2]);
+        let b = wide(walked[2 * row - 1]);
+        let at = from[a];
+        let first = many[a];
+        let second = many[b];
+        let gain = gains(&seen, at as usize, first as usize, second as usize);
         lay[row - 1] = freed_byte(lay[row - 1], gain);
+        from[n as usize + row] = at;
+        many[n as usize + row] = first + second;
         row += 1;
     }
 }

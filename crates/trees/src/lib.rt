@@ -7,9 +7,9 @@ mod turning;
 
 pub use checking::bad_row;
 pub use leaves::leaf_order;
-pub use leaves::walk;
 pub use matching::compatible;
 pub use matching::match_layout;
+pub use matching::note_places;
 pub use matching::read_layout;
 pub use turning::exchange;
 pub use turning::is_turned;

@@ -11,7 +11,7 @@ ghost use Rattle.trees.specs.Match.{orderIn, Tells, Matches};
 use crate::turning::layout_order;
 
 // Notes at each leaf v of 1 to n its first place among the first n entries of xs, and leaves n where there is none.
-fn places(xs: &[u16; 512], n: u16, at: &mut [u16; 1024])
+pub fn note_places(xs: &[u16; 512], n: u16, at: &mut [u16; 1024])
     requires { ⌜ (n ≤ 512) × (length (now xs) ≡ 512) × (now at ≡ replicate 1024 n) ⌝ }
     ensures { λ _. ⌜ length (now (at .exit)) ≡ 1024 ⌝ }
     ensures { λ _. ⌜ ((v : ℕ) → v ≤ n → getD (now (at .exit)) v 0 ≡ place (take n (now (xs .entry))) v) ⌝ }
@@ -44,7 +44,7 @@ pub fn read_layout(tab: &[u16; 1023], xs: &[u16; 512], lay: &mut [u8])
 {
     let n = tab[1022];
     let mut at = [n; 1024];
-    places(xs, n, &mut at);
+    note_places(xs, n, &mut at);
     let mut i = 1;
     while i <= lay.len() {
         let a = at[tab[2 * i - 2] as usize];

@@ -19,14 +19,14 @@ abbrev μ-loop : tie.MeasureT-loop
 element-copy-out-n : tie.Need-element-copy-out-n Inv-loop μ-loop
 element-copy-out-n c = search needs
 
-places-requires : tie.Need-places-requires Inv-loop μ-loop
-places-requires c κs = let s = c .before .before .before in (s .pre .0 .most, s .pre .1 .0, refl)
+note-places-requires : tie.Need-note-places-requires Inv-loop μ-loop
+note-places-requires c κs = let s = c .before .before .before in (s .pre .0 .most, s .pre .1 .0, refl)
 
 loop-holds : tie.Need-loop-holds Inv-loop μ-loop
 loop-holds c =
     let s = c .before .before .before .before in
     let T = s .args .tab .now in
-    let p = c .places in
+    let p = c .note-places in
     read-none T (s .pre .0) (take (size T) (s .args .xs .now)) (s .args .lay .now) (p .last .1 .1 .0) (p .ensures .0) (p .ensures .1)
 
 mul-a : tie.Need-mul-a Inv-loop μ-loop
@@ -148,7 +148,7 @@ read-layout-spec =
     Inv-loop
     μ-loop
     element-copy-out-n
-    places-requires
+    note-places-requires
     loop-holds
     mul-a
     sub-a

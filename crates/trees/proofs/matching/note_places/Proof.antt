@@ -1,11 +1,11 @@
--- `trees::places` meets its contract. The loop's invariant: each leaf has its first place among the entries from i on.
+-- `trees::note_places` meets its contract. The loop's invariant: each leaf has its first place among the entries from i on.
 use Prim.Native.Nat.{suc, _-_, _≤_}
 use mathlib.Core.Path.{_≡_}
 use native.Mathlib.Omega.{arith}
 use borrow.Author.Needs.{needs}
 use Rattle.trees.proofs.Places.{Noted, noted-none, noted-kept, noted-set, noted-all}
-use Rattle.trees.proofs.matching.places.Statement.{statement}
-use Rattle.trees.proofs.matching.places.Tie as tie
+use Rattle.trees.proofs.matching.note_places.Statement.{statement}
+use Rattle.trees.proofs.matching.note_places.Tie as tie
 
 abbrev Inv-loop : tie.InvT-loop
 Inv-loop xs n at₀ i₀ at i = (i ≤ n) × Noted xs n at i
@@ -66,8 +66,8 @@ returns c =
     let e : l .i ≡ 0 = omega arith in
     (l .inv .1 .long, noted-all (s .args .xs .now) (s .args .n) (s .pre .0) (s .pre .1) (l .at) (rw e at (l .inv .1)))
 
-pub places-spec : {M : Type 1} → statement M
-places-spec =
+pub note-places-spec : {M : Type 1} → statement M
+note-places-spec =
     tie.close
     (tie.spec
     Inv-loop
