@@ -1,32 +1,11 @@
--- What unpacking and packing answer, and what they leave in what was lent to them, for every input.
-use Prim.Native.Nat.{ℕ}
+-- What packing answers, and what it leaves in the buffer that was lent to it, for every input.
 use mathlib.Core.Path.{_≡_}
 use mathlib.Core.List.{List}
+use Prim.Native.Nat.{ℕ}
 use Rattle.record.specs.declared.refusal.Refusal.{Refusal}
-use Rattle.record.specs.Fields.{holdOf, sizeOf, Parts, parts, packed}
-use Rattle.record.specs.Calls.{refused, lent, orZero}
-use Rattle.packing.specs.declared.unpacking.Unpacked.{Unpacked}
-use Rattle.packing.specs.Refusals.{unpacking, packing}
-
--- ---- unpacking: what it answers if refused; five buffers, and what they hold afterwards
-
-abbrev pub unpackedNone : ℕ → Unpacked
-unpackedNone k = record { refusal = refused k; hold = 0; n = 0 }
-
-pub record Unpacks (s left right links left-layout right-layout : List ℕ) (answer : Unpacked)
-    (left′ right′ links′ left-layout′ right-layout′ : List ℕ) : Type 0 where
-  pub answers :
-      let k = unpacking s left right links left-layout right-layout in
-      answer ≡ record { refusal = refused k; hold = orZero k (holdOf s); n = orZero k (sizeOf s) }
-  pub leaves-left : left′ ≡ lent (unpacking s left right links left-layout right-layout) (parts s .left-rows) left
-  pub leaves-right : right′ ≡ lent (unpacking s left right links left-layout right-layout) (parts s .right-rows) right
-  pub leaves-links : links′ ≡ lent (unpacking s left right links left-layout right-layout) (parts s .links) links
-  pub leaves-left-layout :
-      left-layout′ ≡ lent (unpacking s left right links left-layout right-layout) (parts s .left-layout) left-layout
-  pub leaves-right-layout :
-      right-layout′ ≡ lent (unpacking s left right links left-layout right-layout) (parts s .right-layout) right-layout
-
--- ---- packing: a buffer, and what it holds afterwards
+use Rattle.record.specs.Fields.{Parts, packed}
+use Rattle.record.specs.Calls.{refused, lent}
+use Rattle.packing.specs.Refusals.{packing}
 
 pub record Packs (P : Parts) (out : List ℕ) (answer : Refusal) (out′ : List ℕ) : Type 0 where
   pub answers : answer ≡ refused (packing P out)

@@ -4,7 +4,7 @@ mod good;
 mod largest;
 mod packing_parts;
 mod printing;
-mod unpacking;
+mod unpacking_parts;
 
 fn main() {
     checking::headings();
@@ -12,5 +12,5 @@ fn main() {
     checking::first_faults();
     largest::sizes();
     packing_parts::cases();
-    unpacking::cases();
+    unpacking_parts::cases();
 }

@@ -10,22 +10,6 @@ ghost use Rattle.trees.specs.Rows.{Good, size, treeOf};
 ghost use Rattle.trees.specs.Match.{orderIn, Tells, Matches};
 use crate::turning::layout_order;
 
-// Notes at each leaf v of 1 to n its first place among the first n entries of xs, and leaves n where there is none.
-pub fn note_places(xs: &[u16; 512], n: u16, at: &mut [u16; 1024])
-    requires { ⌜ (n ≤ 512) × (length (now xs) ≡ 512) × (now at ≡ replicate 1024 n) ⌝ }
-    ensures { λ _. ⌜ length (now (at .exit)) ≡ 1024 ⌝ }
-    ensures { λ _. ⌜ ((v : ℕ) → v ≤ n → getD (now (at .exit)) v 0 ≡ place (take n (now (xs .entry))) v) ⌝ }
-{
-    let mut i = n;
-    while 0 < i {
-        i -= 1;
-        let v = xs[i as usize];
-        if v <= n {
-            at[v as usize] = i;
-        }
-    }
-}
-
 // 1 if a is before b, or 0.
 fn earlier(a: u16, b: u16) -> u8
     ensures { λ r. ⌜ r ≡ bit (ltb a b) ⌝ }

@@ -3,8 +3,8 @@ use mathlib.Core.Path.{sym}
 use native.Mathlib.Omega.{arith}
 use lib.Seq.{length-take-le}
 use borrow.Author.Needs.{needs}
-use Rattle.record_bench.proofs.unpacking.into.Statement.{statement}
-use Rattle.record_bench.proofs.unpacking.into.Tie as tie
+use Rattle.record_bench.proofs.unpacking_parts.into.Statement.{statement}
+use Rattle.record_bench.proofs.unpacking_parts.into.Tie as tie
 
 three-requires : tie.Need-three-requires
 three-requires c κs = search needs

@@ -3,8 +3,8 @@ use mathlib.Core.Path.{sym}
 use native.Mathlib.Omega.{arith}
 use lib.Seq.{length-take-le}
 use borrow.Author.Needs.{needs}
-use Rattle.record_bench.proofs.unpacking.holding.Statement.{statement}
-use Rattle.record_bench.proofs.unpacking.holding.Tie as tie
+use Rattle.record_bench.proofs.unpacking_parts.holding.Statement.{statement}
+use Rattle.record_bench.proofs.unpacking_parts.holding.Tie as tie
 
 three-requires : tie.Need-three-requires
 three-requires c κs = search needs
