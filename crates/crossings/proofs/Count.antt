@@ -12,10 +12,10 @@ use Rattle.tanglegram.specs.Entanglement.{sum, squared, displacement}
 use Rattle.tanglegram.proofs.Lists.{each-map, each-zip, each-pairwise}
 use Rattle.tanglegram.proofs.Sums.{pairs-ext}
 use Rattle.tanglegram.proofs.Crossings.{count-left, count-right}
-use Rattle.crossings.specs.Arrays.{at, begin, Leaf, Linked, OneToN, Holds, filled, crossAt}
-use Rattle.crossings.proofs.Sum.{sum-ext}
-use Rattle.crossings.proofs.OneToOne.{range-leaves, suc-pred, perm-leaves, place-leaf, at-place-leaf, to-leaf, back-leaf, back-to}
-use Rattle.crossings.proofs.Held.{filled-holds, held-at, held-linked, held-distinct, held-apart, held-pairs, held-across}
+use Rattle.leaf_arrays.specs.Arrays.{at, begin, Leaf, Linked, OneToN, Holds, filled, crossAt}
+use Rattle.tanglegram.proofs.ListSums.{sum-ext}
+use Rattle.leaf_arrays.proofs.OneToOne.{range-leaves, suc-pred, perm-leaves, place-leaf, at-place-leaf, to-leaf, back-leaf, back-to}
+use Rattle.leaf_arrays.proofs.Holding.{filled-holds, held-at, held-linked, held-distinct, held-apart, held-pairs, held-across}
 
 -- ---- the arrays
 

@@ -14,12 +14,12 @@ use Rattle.tanglegram.specs.Entanglement.{sum}
 use Rattle.tanglegram.specs.Crossings.{over, across, pairs, inverted}
 use Rattle.tanglegram.proofs.Lists.{each-map, each-zip, distinct-perm}
 use Rattle.tanglegram.proofs.Sums.{over-append, pairs-snoc, pairs-most}
-use Rattle.crossings.specs.Arrays.{at, Linked, OneToN, falls}
-use Rattle.crossings.specs.Seen.{markAt, markAll, past, above}
-use Rattle.crossings.proofs.OneToOne.{perm-leaves, perm-each}
-use Rattle.crossings.proofs.Sum.{range-last}
-use Rattle.crossings.proofs.SeenPlaces.{past-words, markAll-last}
-use Rattle.crossings.proofs.Arrays.{each-at, each-first, each-mapped, distinct-first, one-long}
+use Rattle.leaf_arrays.specs.Arrays.{at, Linked, OneToN, falls}
+use Rattle.seen_places.specs.Seen.{markAt, markAll, past, above}
+use Rattle.leaf_arrays.proofs.OneToOne.{perm-leaves, perm-each}
+use Rattle.tanglegram.proofs.ListSums.{range-last}
+use Rattle.seen_places.proofs.SeenPlaces.{past-words, markAll-last}
+use Rattle.leaf_arrays.proofs.Arrays.{each-at, each-first, each-mapped, distinct-first, one-long}
 
 -- ---- pair by pair
 

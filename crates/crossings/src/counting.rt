@@ -7,10 +7,10 @@ ghost use lib.Dec.{ltb};
 ghost use lib.ListN.{length, take, drop};
 ghost use Rattle.tanglegram.specs.Crossings.{across, inverted, pairs};
 ghost use Rattle.tanglegram.specs.Lists.{Distinct, Each, bit, range};
-ghost use Rattle.crossings.specs.Arrays.{OneToN, at, crossAt, falls};
-use crate::leaves::held;
-use crate::seen::mark;
-use crate::seen::ones_past;
+ghost use Rattle.leaf_arrays.specs.Arrays.{OneToN, at, crossAt, falls};
+use leaf_arrays::held;
+use seen_places::mark;
+use seen_places::ones_past;
 
 // The crossings of an order of the leaves 1 to n, whose links end at the far places: for each leaf the seen places past
 // its own, which is then seen too.

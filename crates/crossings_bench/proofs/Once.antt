@@ -8,10 +8,10 @@ use lib.ListN.{length, take, drop, length-map}
 use lib.Seq.{take-at}
 use Rattle.tanglegram.specs.Lists.{Each, Distinct, range}
 use Rattle.tanglegram.proofs.Lists.{each-map, length-range, one-to-one, range-distinct}
-use Rattle.crossings.specs.Arrays.{Leaf, OneToN, filled}
-use Rattle.crossings.proofs.Arrays.{each-mapped}
-use Rattle.crossings.proofs.Held.{distinct-map}
-use Rattle.crossings.proofs.OneToOne.{range-leaves, suc-pred}
+use Rattle.leaf_arrays.specs.Arrays.{Leaf, OneToN, filled}
+use Rattle.leaf_arrays.proofs.Arrays.{each-mapped}
+use Rattle.leaf_arrays.proofs.Holding.{distinct-map}
+use Rattle.leaf_arrays.proofs.OneToOne.{range-leaves, suc-pred}
 
 -- ---- a few numbers
 

@@ -11,8 +11,8 @@ use Rattle.tanglegram.specs.Entanglement.{sum, displacement}
 use Rattle.tanglegram.specs.Lists.{range}
 use Rattle.tanglegram.specs.Order.{order}
 use Rattle.trees.specs.Rows.{upper, lower, size, treeOf}
-use Rattle.trees.specs.Rule.{badRow}
-use Rattle.crossings.specs.Arrays.{OneToN, at}
+use Rattle.tree_rule.specs.Rule.{badRow}
+use Rattle.leaf_arrays.specs.Arrays.{OneToN, at}
 
 -- Two orders of the leaves 1 to n, and links one to one, in the first n entries of arrays.
 pub record Sides (n : ℕ) (left right links : List ℕ) : Type 0 where

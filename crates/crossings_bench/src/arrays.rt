@@ -4,7 +4,7 @@ ghost use mathlib.Core.Path.{_≡_};
 ghost use mathlib.Core.List.{_∷_};
 ghost use Prim.Native.Nat.{pred, _-_, _≤_};
 ghost use lib.ListN.{length, replicate};
-ghost use Rattle.crossings.specs.Arrays.{OneToN, filled};
+ghost use Rattle.leaf_arrays.specs.Arrays.{OneToN, filled};
 
 // Writes 1 to n into out's first n places.
 pub fn rising(n: usize, out: &mut [u16; 512])

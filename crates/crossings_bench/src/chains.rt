@@ -33,7 +33,7 @@ pub fn order_of(tab: &[u16; 1023], lay: &[u8], out: &mut [u16; 512]) -> bool
     requires { ⌜ length (now out) ≡ 512 ⌝ }
     ensures { λ r. ⌜ Ordered (now (tab .entry)) (now (lay .entry)) (now (out .entry)) r (now (out .exit)) ⌝ }
 {
-    if trees::bad_row(tab) != 0 {
+    if tree_rule::bad_row(tab) != 0 {
         return false;
     }
     trees::layout_order(tab, lay, out);

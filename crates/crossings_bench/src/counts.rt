@@ -4,7 +4,7 @@ ghost use mathlib.Core.Path.{_≡_};
 ghost use Prim.Native.Nat.{_≤_};
 ghost use lib.ListN.{length, take};
 ghost use Rattle.tanglegram.specs.Crossings.{end};
-ghost use Rattle.crossings.specs.Arrays.{Holds, OneToN};
+ghost use Rattle.leaf_arrays.specs.Arrays.{Holds, OneToN};
 ghost use Rattle.crossings_bench.specs.Bench.{Sides, countOf, displacementOf};
 
 // Writes for each left leaf the place of its link's right end.
@@ -13,8 +13,8 @@ fn far_places(right: &[u16; 512], links: &[u16; 512], n: usize, far: &mut [u16; 
     ensures { λ _. ⌜ Holds n (now (far .exit)) (end (take n (now (links .entry))) (take n (now (right .entry)))) ⌝ }
 {
     let mut places = [0u16; 512];
-    crossings::places(right, n, &mut places);
-    crossings::far_ends(links, &places, n, far);
+    leaf_arrays::places(right, n, &mut places);
+    leaf_arrays::far_ends(links, &places, n, far);
 }
 
 // The count by seen places along the left order.
@@ -34,8 +34,8 @@ pub fn from_right(left: &[u16; 512], right: &[u16; 512], links: &[u16; 512], n: 
 {
     let mut places = [0u16; 512];
     let mut near = [0u16; 512];
-    crossings::places(left, n, &mut places);
-    crossings::near_ends(links, &places, n, &mut near);
+    leaf_arrays::places(left, n, &mut places);
+    leaf_arrays::near_ends(links, &places, n, &mut near);
     crossings::count_seen(right, &near, n)
 }
 
@@ -46,7 +46,7 @@ pub fn by_pairs(left: &[u16; 512], right: &[u16; 512], links: &[u16; 512], n: us
 {
     let mut places = [0u16; 512];
     let mut far = [0u16; 512];
-    crossings::places(left, n, &mut places);
+    leaf_arrays::places(left, n, &mut places);
     far_places(right, links, n, &mut far);
     crossings::count_pairs(&places, &far, n)
 }
@@ -58,7 +58,7 @@ pub fn displacement(left: &[u16; 512], right: &[u16; 512], links: &[u16; 512], n
 {
     let mut places = [0u16; 512];
     let mut far = [0u16; 512];
-    crossings::places(left, n, &mut places);
+    leaf_arrays::places(left, n, &mut places);
     far_places(right, links, n, &mut far);
-    crossings::displaced(&places, &far, n)
+    displacement::displaced(&places, &far, n)
 }

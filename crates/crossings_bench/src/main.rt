@@ -27,7 +27,7 @@ fn show(left: &[u16; 512], right: &[u16; 512], links: &[u16; 512], n: usize)
     number(counts::by_pairs(left, right, links, n) as u64, b"\n");
     io::write_all(libc::STDOUT_FILENO, b"E ");
     number(counts::displacement(left, right, links, n) as u64, b" ");
-    number(crossings::worst_value(n) as u64, b"\n");
+    number(displacement::worst_value(n) as u64, b"\n");
 }
 
 // 512 leaves in reverse. All 512 * 511 / 2 = 130,816 pairs cross, and D = W = 512 * (512 * 512 - 1) / 3 = 44,739,072.

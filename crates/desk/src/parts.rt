@@ -10,7 +10,7 @@ use crate::room;
 use crate::words::part;
 use crate::words::part_bytes;
 use crate::words::word;
-use packing::unpacking::Unpacked;
+use unpacking::unpacking::Unpacked;
 
 // pack HOLD N LEFT RIGHT LINKS LAYOUT LAYOUT OUT -> NUMBER OUT
 pub fn pack(line: &[u8], s: &mut [u8], xs: &mut [u16], layouts: &mut [u8]) {
@@ -195,7 +195,7 @@ fn unpack_all(
     leftlayout: &mut [u8],
     rightlayout: &mut [u8],
 ) {
-    let answer = packing::unpack(s, left, right, links, leftlayout, rightlayout);
+    let answer = unpacking::unpack(s, left, right, links, leftlayout, rightlayout);
     unpacked(answer, left, right, links, leftlayout, rightlayout)
 }
 

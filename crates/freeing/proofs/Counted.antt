@@ -18,8 +18,8 @@ use Rattle.tanglegram.proofs.Turning.{leaf-product}
 use Rattle.trees.specs.Rows.{upper, lower, size, objectOf, treeOf, Good}
 use Rattle.trees.proofs.Table.{upper-place, lower-place}
 use Rattle.trees.proofs.Walked.{length-leaves, leaves-leaf}
-use Rattle.crossings.specs.Arrays.{at, falls}
-use Rattle.crossings.proofs.OneToOne.{at-place-leaf}
+use Rattle.leaf_arrays.specs.Arrays.{at, falls}
+use Rattle.leaf_arrays.proofs.OneToOne.{at-place-leaf}
 use Rattle.crossings.proofs.Runs.{across-falls}
 use Rattle.freeing.specs.Row.{Apart, standing, turnedOver, gain, asItStands, theOther}
 use Rattle.freeing.proofs.Under.{pairwise-unmapped, row-at}

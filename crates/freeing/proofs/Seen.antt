@@ -11,8 +11,8 @@ use Rattle.tanglegram.proofs.Lists.{each-map}
 use Rattle.tanglegram.proofs.Tree.{leaves-once}
 use Rattle.trees.specs.Rows.{upper, lower, size, treeOf, Good}
 use Rattle.trees.proofs.Walked.{length-leaves}
-use Rattle.crossings.specs.Arrays.{Leaf, along, at}
-use Rattle.crossings.proofs.OneToOne.{perm-leaves}
+use Rattle.leaf_arrays.specs.Arrays.{Leaf, along, at}
+use Rattle.leaf_arrays.proofs.OneToOne.{perm-leaves}
 
 module _ (W : List ℕ) (good : Good W) (order : List ℕ) (is : order ≡ leaves (treeOf W) ++ drop (size W) (replicate 512 0)) where
   pub order-long : length order ≡ 512

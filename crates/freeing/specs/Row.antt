@@ -9,7 +9,7 @@ use Rattle.tanglegram.specs.Lists.{Each, Distinct, range}
 use Rattle.tanglegram.specs.Order.{byte, mayChange, flip}
 use Rattle.tanglegram.specs.Crossings.{across, between}
 use Rattle.trees.specs.Rows.{upper, lower, size, objectOf}
-use Rattle.crossings.specs.Arrays.{at, falls}
+use Rattle.leaf_arrays.specs.Arrays.{at, falls}
 
 -- The links of leaves 1 to n end at places below 512, each at another, by the array of these places.
 abbrev pub Apart : ℕ → List ℕ → Type 0

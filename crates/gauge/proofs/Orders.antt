@@ -13,7 +13,7 @@ use Rattle.tanglegram.specs.Order.{order}
 use Rattle.tanglegram.proofs.Lists.{length-perm}
 use Rattle.tanglegram.proofs.Order.{order-perm}
 use Rattle.trees.specs.Rows.{size, upper, lower, treeOf, Good}
-use Rattle.trees.specs.Rule.{badRow}
+use Rattle.tree_rule.specs.Rule.{badRow}
 use Rattle.trees.proofs.Walked.{length-leaves}
 use Rattle.gauge.specs.Gauge.{sizes, tableOf, fits, Orders}
 

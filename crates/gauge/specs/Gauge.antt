@@ -9,7 +9,7 @@ use lib.ListN.{length, set, drop, replicate}
 use lib.Seq.{paste}
 use Rattle.tanglegram.specs.Order.{order}
 use Rattle.trees.specs.Rows.{upper, lower, size, treeOf}
-use Rattle.trees.specs.Rule.{badRow}
+use Rattle.tree_rule.specs.Rule.{badRow}
 
 -- Lists of these lengths are rows, a layout and room for the order of n leaves, 1 to 512.
 abbrev pub sizes : ℕ → ℕ → ℕ → ℕ → Bool

@@ -50,7 +50,7 @@ pub extern "C" fn gauge_order(rows: &[u16], n: u16, layout: &[u8], out: &mut [u1
     let mut tab = [0u16; 1023];
     copy(rows, rows.len(), &mut tab);
     tab[1022] = n;
-    if trees::bad_row(&tab) != 0 {
+    if tree_rule::bad_row(&tab) != 0 {
         return 0;
     }
     let mut order = [0u16; 512];

@@ -4,7 +4,7 @@ use mathlib.Core.List.{List}
 use lib.Ieee.{Float, binary64, ofBits}
 use lib.ListN.{getD}
 use Rattle.record.specs.Calls.{refused}
-use Rattle.packing.specs.declared.unpacking.Unpacked.{Unpacked}
+use Rattle.unpacking.specs.declared.unpacking.Unpacked.{Unpacked}
 use Rattle.table.specs.declared.answers.Counted.{Counted}
 use Rattle.table.specs.declared.answers.Freed.{Freed}
 use Rattle.table.specs.declared.answers.Ran.{Ran}

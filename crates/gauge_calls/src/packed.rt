@@ -1,8 +1,9 @@
 // Packing and unpacking.
 ghost use Rattle.gauge_calls.specs.Gauged.{unpacked};
-ghost use Rattle.packing.specs.Calls.{Packs, Unpacks};
+ghost use Rattle.packing.specs.Calls.{Packs};
+ghost use Rattle.unpacking.specs.Calls.{Unpacks};
 ghost use Rattle.record.specs.Calls.{refused};
-ghost use Rattle.record.specs.Fields.{given};
+ghost use Rattle.format.specs.Fields.{given};
 
 // The refusal's number, or 0.
 #[no_mangle]
@@ -68,7 +69,7 @@ pub extern "C" fn gauge_unpack(
         (now (rightlayout .exit))
         ⌝ }
 {
-    let answer = packing::unpack(s, left, right, links, leftlayout, rightlayout);
+    let answer = unpacking::unpack(s, left, right, links, leftlayout, rightlayout);
     GaugeUnpack {
         number: answer.refusal.number as u32,
         hold: answer.hold as u32,

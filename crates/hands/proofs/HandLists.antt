@@ -12,12 +12,12 @@ use lib.Dec.{eqb, ltb}
 use lib.ListN.{length, getD, drop, length-map, drop-of-length-le}
 use lib.Seq.{drop-cons}
 use Rattle.tanglegram.specs.Run.{left}
-use Rattle.record.specs.Fields.{holdOf, sizeOf}
-use Rattle.record.specs.Refusals.{orElse, refusal}
+use Rattle.format.specs.Fields.{holdOf, sizeOf}
+use Rattle.format.specs.Refusals.{orElse, refusal}
 use Rattle.record.specs.Calls.{refused}
-use Rattle.record.specs.Meaning.{layoutsOf, relaid}
-use Rattle.record.proofs.Acceptance.{else-first, else-second, none-both}
-use Rattle.record.proofs.Heading.{none-first, not-no}
+use Rattle.format.specs.Meaning.{layoutsOf, relaid}
+use Rattle.format.proofs.Acceptance.{else-first, else-second, none-both}
+use Rattle.format.proofs.Heading.{none-first, not-no}
 use Rattle.standing.specs.Sides.{isSide, sideOf, holds}
 use Rattle.hands.specs.Refusals.{Hand, hand, badHand, badHands, handing}
 use Rattle.hands.specs.Calls.{handed, Hands}

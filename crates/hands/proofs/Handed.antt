@@ -14,12 +14,12 @@ use Rattle.tanglegram.specs.Order.{flip, byte, turnRow}
 use Rattle.tanglegram.specs.Run.{Side, left, right}
 use Rattle.tanglegram.specs.Table.{Layouts, layout, put}
 use Rattle.tanglegram.proofs.Lists.{each-map}
-use Rattle.record.specs.Fields.{holdOf, sizeOf, parts}
-use Rattle.record.specs.Refusals.{isLayout, refusal}
-use Rattle.record.specs.Meaning.{layoutsOf, relaid}
-use Rattle.record.proofs.Acceptance.{accepted-parts, accepted-sized, none-both}
-use Rattle.record.proofs.Meaning.{relaid-same}
-use Rattle.record.proofs.Tests.{all-each}
+use Rattle.format.specs.Fields.{holdOf, sizeOf, parts}
+use Rattle.format.specs.Refusals.{isLayout, refusal}
+use Rattle.format.specs.Meaning.{layoutsOf, relaid}
+use Rattle.format.proofs.Acceptance.{accepted-parts, accepted-sized, none-both}
+use Rattle.format.proofs.Meaning.{relaid-same}
+use Rattle.format.proofs.Tests.{all-each}
 use Rattle.standing.specs.Sides.{holds, sideOf}
 use Rattle.hands.specs.Refusals.{Hand, badHand, badHands, handing}
 use Rattle.hands.specs.Calls.{handed}

@@ -12,19 +12,17 @@ use Rattle.tanglegram.specs.Lists.{Each}
 use Rattle.tanglegram.specs.Order.{flip, turnRow}
 use Rattle.tanglegram.specs.Run.{Side, left, right}
 use Rattle.tanglegram.specs.Table.{Layouts, layout, put}
-use Rattle.record.specs.Fields.{bytes, holdOf, sizeOf, parts}
-use Rattle.record.specs.Refusals.{isLayout}
-use Rattle.record.specs.Meaning.{tableOf, layoutsOf, relaid}
-use Rattle.record.proofs.Acceptance.{accepted-sized, accepted-parts, none-both}
-use Rattle.record.proofs.Meaning.{length-left, length-right, relaid-accepted, size-relaid, hold-relaid, table-relaid}
-use Rattle.record.proofs.Meaning.{layouts-of-relaid, relaid-again, relaid-same}
-use Rattle.record.proofs.Stores.{length-bytes}
-use Rattle.record.proofs.Tests.{all-each, each-all}
+use Rattle.format.specs.Fields.{bytes, holdOf, sizeOf, parts}
+use Rattle.format.specs.Refusals.{isLayout}
+use Rattle.format.specs.Meaning.{tableOf, layoutsOf, relaid}
+use Rattle.format.proofs.Acceptance.{accepted-sized, accepted-parts, none-both}
+use Rattle.format.proofs.Meaning.{length-left, length-right, relaid-accepted, size-relaid, hold-relaid, table-relaid, layouts-of-relaid, relaid-again, relaid-same}
+use Rattle.format.proofs.Stores.{length-bytes}
+use Rattle.format.proofs.Tests.{all-each, each-all}
 use Rattle.standing.specs.Sides.{sideOf, Given, layoutAt}
 use Rattle.hands.specs.Refusals.{Hand, hand, badHand, badHands}
 use Rattle.hands.specs.Calls.{handed}
-use Rattle.standing.proofs.AsItStands.{given, side-layout, layout-within}
-use Rattle.standing.proofs.AsItStands.{given-size}
+use Rattle.standing.proofs.AsItStands.{given, side-layout, layout-within, given-size}
 use Rattle.standing.proofs.Relaying.{relaid-part}
 use Rattle.hands.proofs.HandLists.{GoodHand, hand-good}
 

@@ -5,9 +5,9 @@ use mathlib.Core.Bool.{cond}
 use mathlib.Core.List.{List, [], _∷_}
 use Rattle.tanglegram.specs.Order.{turnRow}
 use Rattle.tanglegram.specs.Table.{Layouts, layout, put}
-use Rattle.record.specs.declared.refusal.Refusal.{Refusal}
+use Rattle.format.specs.declared.refusal.Refusal.{Refusal}
 use Rattle.record.specs.Calls.{refused, accepted, lent}
-use Rattle.record.specs.Meaning.{layoutsOf, relaid}
+use Rattle.format.specs.Meaning.{layoutsOf, relaid}
 use Rattle.standing.specs.Sides.{sideOf}
 use Rattle.hands.specs.Refusals.{Hand, handing}
 

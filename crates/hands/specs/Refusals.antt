@@ -5,8 +5,8 @@ use mathlib.Core.List.{List, [], _∷_}
 use lib.Dec.{eqb, ltb}
 use lib.ListN.{length}
 use Rattle.tanglegram.specs.Order.{order}
-use Rattle.record.specs.Fields.{holdOf, sizeOf}
-use Rattle.record.specs.Refusals.{_when_else_, orElse, refusal}
+use Rattle.format.specs.Fields.{holdOf, sizeOf}
+use Rattle.format.specs.Refusals.{_when_else_, orElse, refusal}
 use Rattle.standing.specs.Sides.{isSide, sideOf, holds}
 
 -- A hand list: each entry a side and a row; the first bad entry decides.

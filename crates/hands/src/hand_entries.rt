@@ -4,9 +4,9 @@ ghost use mathlib.Core.List.{[], _∷_, map};
 ghost use mathlib.Core.Path.{_≡_};
 ghost use Prim.Native.Nat.{_<_, _≤_};
 ghost use lib.ListN.{length};
-ghost use Rattle.record.specs.Fields.{holdOf, sizeOf};
-ghost use Rattle.record.specs.Meaning.{layoutsOf, relaid};
-ghost use Rattle.record.specs.Refusals.{orElse};
+ghost use Rattle.format.specs.Fields.{holdOf, sizeOf};
+ghost use Rattle.format.specs.Meaning.{layoutsOf, relaid};
+ghost use Rattle.format.specs.Refusals.{orElse};
 ghost use Rattle.hands.specs.Calls.{handed, Hands};
 ghost use Rattle.hands.specs.Entries.{handIn};
 ghost use Rattle.hands.specs.Refusals.{badHand, hand, handing};
@@ -14,7 +14,7 @@ ghost use Rattle.standing.specs.Sides.{Given};
 use crate::handing::hand_number;
 use crate::handing::list_number;
 use crate::handing::turn_hand;
-use record::refusal::Refusal;
+use format::refusal::Refusal;
 
 // An entry: its side and its row.
 #[repr(C)]

@@ -9,12 +9,12 @@ use borrow.Author.Tests.{lt-ltb, le-ltb, eq-eqb, eqb-true, ltb-false}
 use lib.Dec.{eqb, ltb}
 use lib.ListN.{length, length-append}
 use lib.Seq.{sets}
-use Rattle.record.specs.Fields.{split, rightAt, linksAt, leftLayoutAt, rightLayoutAt, lengthOf, Parts, given, opening, packed}
-use Rattle.record.specs.Refusals.{isHold, noSize, contents}
+use Rattle.format.specs.Fields.{split, rightAt, linksAt, leftLayoutAt, rightLayoutAt, lengthOf, Parts, given, opening, packed}
+use Rattle.format.specs.Refusals.{isHold, noSize, contents}
 use Rattle.record.specs.Calls.{refused}
-use Rattle.record.proofs.Heading.{sized, unsized, none-first, not-no}
-use Rattle.record.proofs.Stores.{sets-append, sets-front, length-split}
-use Rattle.record.proofs.Acceptance.{else-first, else-second, none-both}
+use Rattle.format.proofs.Heading.{sized, unsized, none-first, not-no}
+use Rattle.format.proofs.Stores.{sets-append, sets-front, length-split}
+use Rattle.format.proofs.Acceptance.{else-first, else-second, none-both}
 use Rattle.record.proofs.Outcomes.{lent-refused, lent-accepted}
 use Rattle.packing.specs.Refusals.{shape, shapeOf, packing}
 use Rattle.packing.specs.Shapes.{Shaped}

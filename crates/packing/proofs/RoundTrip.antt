@@ -12,14 +12,12 @@ use lib.ListN.{length, getD, take, drop, length-append, length-drop, take-append
 use lib.Seq.{take-suc, take-all, take-at, drop-at, drop-drop, getD-drop, getD-append-add, ext-getD}
 use Rattle.tanglegram.specs.Lists.{Each, range}
 use Rattle.tanglegram.proofs.Lists.{append-nil}
-use Rattle.record.specs.Fields.{two, numbers, bytes, split, holdOf, sizeOf, rightAt, linksAt, leftLayoutAt, rightLayoutAt, lengthOf}
-use Rattle.record.specs.Fields.{Parts, given, opening, parts, partsOf, packed}
-use Rattle.record.specs.Refusals.{isMark, isHold, noSize, contents, heading, refusal}
-use Rattle.record.proofs.Tests.{and-both}
-use Rattle.record.proofs.Stores.{getD-made, length-numbers, length-split, split-append, map-range-end, take-more}
-use Rattle.record.proofs.Heading.{heading-0, unsized}
-use Rattle.record.proofs.Acceptance.{accepted-heading, accepted-contents, refusal-contents}
-use Rattle.record.proofs.Stores.{length-bytes}
+use Rattle.format.specs.Fields.{two, numbers, bytes, split, holdOf, sizeOf, rightAt, linksAt, leftLayoutAt, rightLayoutAt, lengthOf, Parts, given, opening, parts, partsOf, packed}
+use Rattle.format.specs.Refusals.{isMark, isHold, noSize, contents, heading, refusal}
+use Rattle.format.proofs.Tests.{and-both}
+use Rattle.format.proofs.Stores.{getD-made, length-numbers, length-split, split-append, map-range-end, take-more, length-bytes}
+use Rattle.format.proofs.Heading.{heading-0, unsized}
+use Rattle.format.proofs.Acceptance.{accepted-heading, accepted-contents, refusal-contents}
 use Rattle.packing.specs.Refusals.{packing}
 use Rattle.packing.proofs.Packed.{ShapedParts, shape-good, shape-0, packing-good, packing-0, length-packed}
 

@@ -2,8 +2,8 @@
 use mathlib.Core.Path.{_≡_}
 use mathlib.Core.List.{List}
 use Prim.Native.Nat.{ℕ}
-use Rattle.record.specs.declared.refusal.Refusal.{Refusal}
-use Rattle.record.specs.Fields.{Parts, packed}
+use Rattle.format.specs.declared.refusal.Refusal.{Refusal}
+use Rattle.format.specs.Fields.{Parts, packed}
 use Rattle.record.specs.Calls.{refused, lent}
 use Rattle.packing.specs.Refusals.{packing}
 

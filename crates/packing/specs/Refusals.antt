@@ -4,8 +4,8 @@ use mathlib.Core.Bool.{not}
 use mathlib.Core.List.{List}
 use lib.Dec.{eqb, ltb}
 use lib.ListN.{length}
-use Rattle.record.specs.Fields.{lengthOf, Parts}
-use Rattle.record.specs.Refusals.{_when_else_, orElse, isHold, noSize, contents}
+use Rattle.format.specs.Fields.{lengthOf, Parts}
+use Rattle.format.specs.Refusals.{_when_else_, orElse, isHold, noSize, contents}
 
 -- First the hold, n, and the length of each list; the buffer's places come last.
 unfoldable pub shape : ℕ → ℕ → ℕ → ℕ → ℕ → ℕ → ℕ → ℕ

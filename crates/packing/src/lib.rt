@@ -1,6 +1,4 @@
-// Packing and unpacking: parts made a record, and a record's parts put into buffers, for any bytes and lists.
+// Packing: parts made a record, for any lists.
 pub mod packing;
-pub mod unpacking;
 
 pub use packing::pack;
-pub use unpacking::unpack;

@@ -7,9 +7,9 @@ use Rattle.tanglegram.specs.Crossings.{over, across, pairs, count}
 use Rattle.tanglegram.specs.Freeing.{choose, freed}
 use Rattle.tanglegram.specs.Run.{go, run}
 use Rattle.tanglegram.specs.Entanglement.{sum, displacement}
-use Rattle.trees.specs.Rule.{among, first, badRow}
-use Rattle.record.specs.Fields.{numbers, split, partsOf, packed}
-use Rattle.record.specs.Refusals.{all, isMark, isHold, noSize, breaksRule, oneToOne, isLayout, contents, heading, refusal}
+use Rattle.tree_rule.specs.Rule.{among, first, badRow}
+use Rattle.format.specs.Fields.{numbers, split, partsOf, packed}
+use Rattle.format.specs.Refusals.{all, isMark, isHold, noSize, breaksRule, oneToOne, isLayout, contents, heading, refusal}
 use Rattle.standing.specs.Sides.{isSide, holds}
 use Rattle.table.specs.Refusals.{noAllowance, freeing, running}
 use Rattle.table.specs.Calls.{entangled}

@@ -16,10 +16,10 @@ use Rattle.tanglegram.proofs.Tree.{eachRow-map}
 use Rattle.tanglegram.proofs.Order.{order-compatible}
 use Rattle.tanglegram.proofs.Freeing.{every-layout}
 use Rattle.tanglegram.proofs.Table.{free-exactly, free-least, free-other}
-use Rattle.record.specs.Fields.{sizeOf, partsOf}
-use Rattle.record.specs.Refusals.{refusal}
-use Rattle.record.specs.Meaning.{tableOf, layoutsOf, relaid}
-use Rattle.record.proofs.Meaning.{accepted-fair, accepted-fits}
+use Rattle.format.specs.Fields.{sizeOf, partsOf}
+use Rattle.format.specs.Refusals.{refusal}
+use Rattle.format.specs.Meaning.{tableOf, layoutsOf, relaid}
+use Rattle.format.proofs.Meaning.{accepted-fair, accepted-fits}
 use Rattle.standing.specs.Sides.{sideOf}
 use Rattle.table.specs.Refusals.{ordering, freeing}
 use Rattle.standing.specs.Shown.{shownOrder, shownCount}

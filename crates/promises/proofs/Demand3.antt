@@ -11,11 +11,11 @@ use Rattle.tanglegram.specs.Table.{Table, Layouts, put, crossings, free, Least}
 use Rattle.tanglegram.proofs.Freeing.{every-layout}
 use Rattle.tanglegram.proofs.Run.{stays-good, no-rise}
 use Rattle.tanglegram.proofs.Table.{Fits, frees, run-table}
-use Rattle.record.specs.Fields.{holdOf}
-use Rattle.record.specs.Refusals.{refusal}
-use Rattle.record.specs.Meaning.{tableOf, layoutsOf, relaid}
-use Rattle.record.proofs.Acceptance.{accepted-sized}
-use Rattle.record.proofs.Meaning.{accepted-fair, accepted-fits, fits-long, layouts-of-relaid, table-relaid}
+use Rattle.format.specs.Fields.{holdOf}
+use Rattle.format.specs.Refusals.{refusal}
+use Rattle.format.specs.Meaning.{tableOf, layoutsOf, relaid}
+use Rattle.format.proofs.Acceptance.{accepted-sized}
+use Rattle.format.proofs.Meaning.{accepted-fair, accepted-fits, fits-long, layouts-of-relaid, table-relaid}
 use Rattle.standing.specs.Sides.{holds}
 use Rattle.table.specs.Refusals.{running}
 use Rattle.standing.specs.Shown.{shownCount}

@@ -13,12 +13,12 @@ use Rattle.tanglegram.specs.Run.{Side, left, right, run}
 use Rattle.tanglegram.specs.Table.{Layouts, layout, put, crossings, free, Least}
 use Rattle.tanglegram.proofs.Run.{stays-good}
 use Rattle.tanglegram.proofs.Table.{Fits, frees, run-table}
-use Rattle.record.specs.Fields.{holdOf, sizeOf, leftLayoutAt}
-use Rattle.record.specs.Refusals.{refusal}
+use Rattle.format.specs.Fields.{holdOf, sizeOf, leftLayoutAt}
+use Rattle.format.specs.Refusals.{refusal}
 use Rattle.record.specs.Calls.{accepted}
-use Rattle.record.specs.Meaning.{tableOf, layoutsOf, relaid}
-use Rattle.record.proofs.Acceptance.{accepted-sized}
-use Rattle.record.proofs.Meaning.{accepted-fair, accepted-fits, fits-long, length-relaid, layouts-of-relaid}
+use Rattle.format.specs.Meaning.{tableOf, layoutsOf, relaid}
+use Rattle.format.proofs.Acceptance.{accepted-sized}
+use Rattle.format.proofs.Meaning.{accepted-fair, accepted-fits, fits-long, length-relaid, layouts-of-relaid}
 use Rattle.standing.specs.Sides.{sideOf, holds}
 use Rattle.hands.specs.Refusals.{Hand, handing}
 use Rattle.table.specs.Refusals.{freeing, running}

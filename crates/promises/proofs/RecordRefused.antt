@@ -6,11 +6,12 @@ use Prim.Native.Nat.{ℕ}
 use borrow.Author.Tests.{ne-eqb}
 use Rattle.record.specs.declared.reading.Reading.{Reading}
 use Rattle.record.specs.declared.reading.Reading.the-variants.{Accepted, Refused}
-use Rattle.record.specs.Fields.{holdOf, sizeOf, parts, packed}
-use Rattle.record.specs.Refusals.{holding}
+use Rattle.format.specs.Fields.{holdOf, sizeOf, parts, packed}
+use Rattle.format.specs.Refusals.{holding}
 use Rattle.record.specs.Calls.{numberOf, holdIn, sizeIn}
 use Rattle.record.proofs.Outcomes.{lent-refused, zero-refused}
-use Rattle.packing.specs.Refusals.{unpacking, packing}
+use Rattle.unpacking.specs.Refusals.{unpacking}
+use Rattle.packing.specs.Refusals.{packing}
 use Rattle.promises.specs.RecordOutcomes.{UnpackOutcome, UnpacksTo}
 use Rattle.promises.specs.RecordRefused.{NothingUnpacked, RecordRefused}
 

@@ -6,17 +6,17 @@ use native.Mathlib.Omega.{arith}
 use lib.ListN.{length, take, drop}
 use lib.Seq.{take-at, take-append-seam}
 use Rattle.tanglegram.specs.Lists.{Each}
-use Rattle.record.specs.declared.refusal.Refusal.{Refusal}
-use Rattle.record.specs.Fields.{holdOf, sizeOf, rightAt, linksAt, leftLayoutAt, rightLayoutAt, lengthOf}
-use Rattle.record.specs.Fields.{Parts, given, parts, partsOf, packed}
-use Rattle.record.specs.Refusals.{refusal}
+use Rattle.format.specs.declared.refusal.Refusal.{Refusal}
+use Rattle.format.specs.Fields.{holdOf, sizeOf, rightAt, linksAt, leftLayoutAt, rightLayoutAt, lengthOf, Parts, given, parts, partsOf, packed}
+use Rattle.format.specs.Refusals.{refusal}
 use Rattle.record.specs.Calls.{lent}
-use Rattle.record.proofs.Stores.{length-numbers, length-bytes}
-use Rattle.record.proofs.Acceptance.{accepted-sized}
+use Rattle.format.proofs.Stores.{length-numbers, length-bytes}
+use Rattle.format.proofs.Acceptance.{accepted-sized}
 use Rattle.record.proofs.Outcomes.{lent-accepted}
-use Rattle.packing.specs.Refusals.{room, unpacking, packing}
+use Rattle.unpacking.specs.Refusals.{room, unpacking}
+use Rattle.packing.specs.Refusals.{packing}
 use Rattle.packing.specs.Calls.{Packs}
-use Rattle.packing.proofs.Unpacked.{Room, room-0, unpack-second, unpack-record}
+use Rattle.unpacking.proofs.Unpacked.{Room, room-0, unpack-second, unpack-record}
 use Rattle.packing.proofs.Packed.{shape-good, packing-good, length-packed}
 use Rattle.packing.proofs.RoundTrip.{size-packed, parts-packed, packed-accepted, packed-parts, parts-accepted}
 use Rattle.promises.specs.RecordOutcomes.{UnpackOutcome, UnpacksTo}

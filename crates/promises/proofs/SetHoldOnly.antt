@@ -8,9 +8,9 @@ use native.Mathlib.Omega.{arith}
 use borrow.Author.Tests.{eq-eqb}
 use lib.ListN.{length, getD, set, length-set}
 use lib.Seq.{getD-set-same, getD-set-other}
-use Rattle.record.specs.Refusals.{holding}
+use Rattle.format.specs.Refusals.{holding}
 use Rattle.record.specs.Calls.{accepted}
-use Rattle.record.proofs.Acceptance.{accepted-heading, holding-accepted}
+use Rattle.format.proofs.Acceptance.{accepted-heading, holding-accepted}
 use Rattle.promises.specs.SetHoldOnly.{SetHoldPromise}
 
 -- the letter written, or nothing

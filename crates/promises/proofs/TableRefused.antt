@@ -2,7 +2,7 @@
 use mathlib.Core.Path.{_≡_, refl, ap, _∙_}
 use mathlib.Core.Logic.{_≢_}
 use borrow.Author.Tests.{ne-eqb}
-use Rattle.record.specs.Refusals.{refusal}
+use Rattle.format.specs.Refusals.{refusal}
 use Rattle.table.specs.declared.answers.Entangled.{Entangled}
 use Rattle.table.specs.declared.answers.Entangled.the-variants.{Ratio, NoRatio, Refused}
 use Rattle.table.specs.Refusals.{ordering, freeing, running}

@@ -8,9 +8,9 @@ use Rattle.tanglegram.specs.Run.{left, right}
 use Rattle.tanglegram.specs.Table.{crossings}
 use Rattle.tanglegram.proofs.Bench.{Given, Shown, Line, line, case, shows, bytes, ownOf}
 use Rattle.tanglegram.proofs.Bench as Definitions
-use Rattle.record.specs.Fields.{given, packed}
-use Rattle.record.specs.Refusals.{refusal}
-use Rattle.record.specs.Meaning.{tableOf}
+use Rattle.format.specs.Fields.{given, packed}
+use Rattle.format.specs.Refusals.{refusal}
+use Rattle.format.specs.Meaning.{tableOf}
 use Rattle.table.specs.Refusals.{freeing, running}
 use Rattle.standing.specs.Shown.{shownOrder, shownCount}
 use Rattle.table.specs.Calls.{entangled, displacedIn, worstIn, freedLayouts, ranTo}

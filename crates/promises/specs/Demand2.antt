@@ -11,9 +11,9 @@ use Rattle.tanglegram.specs.Order.{order, Compatible, byte, flip}
 use Rattle.tanglegram.specs.Crossings.{count, between, own, ownAt}
 use Rattle.tanglegram.specs.Run.{left, right, other}
 use Rattle.tanglegram.specs.Table.{layout, put, seen, crossings}
-use Rattle.record.specs.declared.refusal.Refusal.{Refusal}
-use Rattle.record.specs.Fields.{sizeOf, parts}
-use Rattle.record.specs.Meaning.{tableOf, layoutsOf}
+use Rattle.format.specs.declared.refusal.Refusal.{Refusal}
+use Rattle.format.specs.Fields.{sizeOf, parts}
+use Rattle.format.specs.Meaning.{tableOf, layoutsOf}
 use Rattle.table.specs.declared.answers.Counted.{Counted}
 use Rattle.table.specs.declared.answers.Freed.{Freed}
 use Rattle.standing.specs.Sides.{sideOf}

@@ -6,9 +6,9 @@ use mathlib.Core.Path.{_≡_}
 use mathlib.Core.List.{List}
 use Rattle.tanglegram.specs.Run.{Side, left, after}
 use Rattle.tanglegram.specs.Table.{Layouts, put, crossings, free}
-use Rattle.record.specs.Fields.{holdOf}
-use Rattle.record.specs.Refusals.{refusal}
-use Rattle.record.specs.Meaning.{tableOf, layoutsOf, relaid}
+use Rattle.format.specs.Fields.{holdOf}
+use Rattle.format.specs.Refusals.{refusal}
+use Rattle.format.specs.Meaning.{tableOf, layoutsOf, relaid}
 use Rattle.table.specs.declared.answers.Ran.{Ran}
 use Rattle.standing.specs.Shown.{shownCount}
 use Rattle.table.specs.Calls.{Runs}

@@ -7,9 +7,9 @@ use mathlib.Core.List.{List}
 use lib.ListN.{length, take}
 use Rattle.tanglegram.specs.Run.{Side}
 use Rattle.tanglegram.specs.Table.{layout}
-use Rattle.record.specs.Fields.{holdOf, sizeOf, leftLayoutAt}
-use Rattle.record.specs.Meaning.{layoutsOf}
-use Rattle.record.specs.declared.refusal.Refusal.{Refusal}
+use Rattle.format.specs.Fields.{holdOf, sizeOf, leftLayoutAt}
+use Rattle.format.specs.Meaning.{layoutsOf}
+use Rattle.format.specs.declared.refusal.Refusal.{Refusal}
 use Rattle.table.specs.declared.answers.Freed.{Freed}
 use Rattle.table.specs.declared.answers.Ran.{Ran}
 use Rattle.standing.specs.Sides.{holds}

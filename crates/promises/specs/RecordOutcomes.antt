@@ -3,12 +3,13 @@
 use Prim.Native.Nat.{ℕ}
 use mathlib.Core.Path.{_≡_}
 use mathlib.Core.List.{List}
-use Rattle.record.specs.declared.refusal.Refusal.{Refusal}
+use Rattle.format.specs.declared.refusal.Refusal.{Refusal}
 use Rattle.record.specs.declared.reading.Reading.{Reading}
-use Rattle.record.specs.Fields.{Parts}
+use Rattle.format.specs.Fields.{Parts}
 use Rattle.record.specs.Calls.{Checks, Reads, SetsHold}
-use Rattle.packing.specs.declared.unpacking.Unpacked.{Unpacked}
-use Rattle.packing.specs.Calls.{Unpacks, Packs}
+use Rattle.unpacking.specs.declared.unpacking.Unpacked.{Unpacked}
+use Rattle.unpacking.specs.Calls.{Unpacks}
+use Rattle.packing.specs.Calls.{Packs}
 
 -- What a call that writes one lent memory comes to: its answer, and what the memory holds afterwards.
 pub record Outcome : Type 0 where

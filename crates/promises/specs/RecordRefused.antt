@@ -4,9 +4,9 @@ use Prim.Native.Nat.{ℕ}
 use mathlib.Core.Path.{_≡_}
 use mathlib.Core.Logic.{_≢_}
 use mathlib.Core.List.{List}
-use Rattle.record.specs.declared.refusal.Refusal.{Refusal}
+use Rattle.format.specs.declared.refusal.Refusal.{Refusal}
 use Rattle.record.specs.declared.reading.Reading.{Reading}
-use Rattle.record.specs.Fields.{Parts}
+use Rattle.format.specs.Fields.{Parts}
 use Rattle.record.specs.Calls.{Reads, numberOf, holdIn, sizeIn, SetsHold}
 use Rattle.packing.specs.Calls.{Packs}
 use Rattle.promises.specs.RecordOutcomes.{UnpackOutcome, UnpacksTo}

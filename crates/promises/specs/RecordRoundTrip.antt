@@ -4,8 +4,8 @@ use mathlib.Core.Path.{_≡_}
 use mathlib.Core.List.{List}
 use lib.ListN.{length, take}
 use Rattle.tanglegram.specs.Lists.{Each}
-use Rattle.record.specs.declared.refusal.Refusal.{Refusal}
-use Rattle.record.specs.Fields.{lengthOf, Parts, given}
+use Rattle.format.specs.declared.refusal.Refusal.{Refusal}
+use Rattle.format.specs.Fields.{lengthOf, Parts, given}
 use Rattle.record.specs.Calls.{refused}
 use Rattle.packing.specs.Calls.{Packs}
 use Rattle.promises.specs.RecordOutcomes.{UnpackOutcome, UnpacksTo}

@@ -6,8 +6,8 @@ use mathlib.Core.Logic.{_≢_}
 use mathlib.Core.Bool.{true, false}
 use mathlib.Core.List.{List}
 use lib.ListN.{length, getD}
-use Rattle.record.specs.declared.refusal.Refusal.{Refusal}
-use Rattle.record.specs.Refusals.{isHold, refusal}
+use Rattle.format.specs.declared.refusal.Refusal.{Refusal}
+use Rattle.format.specs.Refusals.{isHold, refusal}
 use Rattle.record.specs.Calls.{SetsHold}
 
 pub record SetHoldOnly (s : List ℕ) (letter : ℕ) (answer : Refusal) (after : List ℕ) : Type 0 where

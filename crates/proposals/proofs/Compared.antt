@@ -7,12 +7,12 @@ use mathlib.Core.List.{List, []}
 use borrow.Author.Tests.{le-leb, lt-leb, ne-eqb}
 use lib.Dec.{lit≤}
 use lib.ListN.{length, take}
-use Rattle.record.specs.Fields.{sizeOf}
-use Rattle.record.specs.Refusals.{refusal}
+use Rattle.format.specs.Fields.{sizeOf}
+use Rattle.format.specs.Refusals.{refusal}
 use Rattle.record.specs.Calls.{refused}
-use Rattle.record.specs.Meaning.{tableOf}
-use Rattle.record.proofs.Acceptance.{else-first, none-both}
-use Rattle.record.proofs.Heading.{none-first, not-no}
+use Rattle.format.specs.Meaning.{tableOf}
+use Rattle.format.proofs.Acceptance.{else-first, none-both}
+use Rattle.format.proofs.Heading.{none-first, not-no}
 use Rattle.standing.specs.Sides.{Given, isSide, sideOf}
 use Rattle.proposals.specs.Refusals.{isOrder, comparing}
 use Rattle.proposals.specs.Calls.{countWith, betterPart, Betters, BetterChecks}

@@ -20,14 +20,14 @@ use Rattle.tanglegram.proofs.Lists.{all-distinct, each-perm, range-each}
 use Rattle.tanglegram.proofs.Order.{order-compatible}
 use Rattle.tanglegram.proofs.Compatible.{compatible-order}
 use Rattle.trees.specs.Rows.{size, treeOf}
-use Rattle.trees.specs.Match.{Tells}
-use Rattle.crossings.specs.Arrays.{at, Holds, OneToN}
+use Rattle.matching.specs.Match.{Tells}
+use Rattle.leaf_arrays.specs.Arrays.{at, Holds, OneToN}
 use Rattle.crossings.proofs.Count.{count-seen-left, count-seen-right}
-use Rattle.record.specs.Fields.{sizeOf, parts}
-use Rattle.record.specs.Refusals.{refusal}
-use Rattle.record.specs.Meaning.{tableOf, layoutsOf}
-use Rattle.record.proofs.Meaning.{accepted-fair, accepted-fits}
-use Rattle.record.proofs.Tables.{take-sets}
+use Rattle.format.specs.Fields.{sizeOf, parts}
+use Rattle.format.specs.Refusals.{refusal}
+use Rattle.format.specs.Meaning.{tableOf, layoutsOf}
+use Rattle.format.proofs.Meaning.{accepted-fair, accepted-fits}
+use Rattle.format.proofs.Tables.{take-sets}
 use Rattle.standing.specs.Sides.{Given, farPlace}
 use Rattle.proposals.specs.Refusals.{same, isOrder}
 use Rattle.proposals.specs.Calls.{countWith}

@@ -7,8 +7,8 @@ use lib.Dec.{leb}
 use lib.ListN.{take}
 use Rattle.tanglegram.specs.Crossings.{count}
 use Rattle.tanglegram.specs.Run.{Side, left, right}
-use Rattle.record.specs.declared.refusal.Refusal.{Refusal}
-use Rattle.record.specs.Fields.{sizeOf, parts}
+use Rattle.format.specs.declared.refusal.Refusal.{Refusal}
+use Rattle.format.specs.Fields.{sizeOf, parts}
 use Rattle.record.specs.Calls.{refused, accepted}
 use Rattle.standing.specs.Sides.{sideOf}
 use Rattle.proposals.specs.Refusals.{comparing}

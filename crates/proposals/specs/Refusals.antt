@@ -6,9 +6,9 @@ use lib.Dec.{eqb, leb}
 use lib.ListN.{length, take, replicate}
 use Rattle.tanglegram.specs.Order.{order, reading}
 use Rattle.tanglegram.specs.Tree.{Tree}
-use Rattle.record.specs.Fields.{sizeOf}
-use Rattle.record.specs.Refusals.{_when_else_, orElse, refusal}
-use Rattle.record.specs.Meaning.{tableOf}
+use Rattle.format.specs.Fields.{sizeOf}
+use Rattle.format.specs.Refusals.{_when_else_, orElse, refusal}
+use Rattle.format.specs.Meaning.{tableOf}
 use Rattle.standing.specs.Sides.{isSide, sideOf}
 
 -- Two lists have the same entries in the same places.

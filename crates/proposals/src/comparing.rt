@@ -4,13 +4,13 @@ ghost use mathlib.Core.Path.{_≡_};
 ghost use Prim.Native.Nat.{_≤_};
 ghost use lib.ListN.{length, take};
 ghost use lib.Seq.{sets};
-ghost use Rattle.record.specs.Meaning.{tableOf};
+ghost use Rattle.format.specs.Meaning.{tableOf};
 ghost use Rattle.proposals.specs.Calls.{BetterChecks, Betters, countWith};
 ghost use Rattle.proposals.specs.Refusals.{comparing, isOrder};
 ghost use Rattle.standing.specs.Sides.{Given, isSide, sideOf};
-use record::refusal::ORDER;
-use record::refusal::Refusal;
-use record::refusal::SIDE;
+use format::refusal::ORDER;
+use format::refusal::Refusal;
+use format::refusal::SIDE;
 use standing::far_places;
 use standing::is_side;
 use standing::rows_at;
@@ -39,8 +39,8 @@ fn is_order(s: &[u8], n: u16, side: u16, xs: &[u16]) -> bool
     let mut order = [0u16; 512];
     copy_proposed(xs, n, &mut order);
     let mut tab = [0u16; 1023];
-    record::fill_table(s, rows_at(n, side), n, &mut tab);
-    trees::compatible(&tab, &order)
+    format::fill_table(s, rows_at(n, side), n, &mut tab);
+    matching::compatible(&tab, &order)
 }
 
 // The count of an accepted record with a side's order replaced by the first n entries of a lent one.

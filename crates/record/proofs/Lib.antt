@@ -1,9 +1,1 @@
-pub mod Stores
-pub mod Tests
-pub mod Marks
-pub mod Heading
-pub mod Contents
-pub mod Acceptance
 pub mod Outcomes
-pub mod Tables
-pub mod Meaning

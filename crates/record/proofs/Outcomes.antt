@@ -6,8 +6,8 @@ use mathlib.Core.List.{List, _++_}
 use borrow.Author.Tests.{eq-eqb, ne-eqb}
 use lib.ListN.{length, drop, set}
 use Rattle.record.specs.declared.reading.Reading.the-variants.{Accepted, Refused}
-use Rattle.record.specs.Fields.{holdOf, sizeOf}
-use Rattle.record.specs.Refusals.{refusal, holding}
+use Rattle.format.specs.Fields.{holdOf, sizeOf}
+use Rattle.format.specs.Refusals.{refusal, holding}
 use Rattle.record.specs.Calls.{refused, lent, orZero, Checks, readingOf, Reads, SetsHold}
 
 -- ---- numbers and buffers

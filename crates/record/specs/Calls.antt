@@ -5,11 +5,11 @@ use mathlib.Core.Bool.{Bool, true, false, cond}
 use mathlib.Core.List.{List, _++_}
 use lib.Dec.{eqb}
 use lib.ListN.{length, drop, set}
-use Rattle.record.specs.declared.refusal.Refusal.{Refusal}
+use Rattle.format.specs.declared.refusal.Refusal.{Refusal}
 use Rattle.record.specs.declared.reading.Reading.{Reading}
 use Rattle.record.specs.declared.reading.Reading.the-variants.{Accepted, Refused}
-use Rattle.record.specs.Fields.{holdOf, sizeOf}
-use Rattle.record.specs.Refusals.{refusal, holding}
+use Rattle.format.specs.Fields.{holdOf, sizeOf}
+use Rattle.format.specs.Refusals.{refusal, holding}
 
 -- A refusal by its number, 0 for none; whether a call with that number is accepted.
 abbrev pub refused : ℕ → Refusal

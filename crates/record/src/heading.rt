@@ -2,14 +2,14 @@
 ghost use mathlib.Core.Path.{_≡_};
 ghost use Prim.Native.Nat.{_≤_};
 ghost use lib.ListN.{length};
-ghost use Rattle.record.specs.Refusals.{heading, isHold, isMark, noSize};
-use crate::copying::number;
-use crate::refusal::HOLD;
-use crate::refusal::LENGTH;
-use crate::refusal::MARK;
-use crate::refusal::SHORT;
-use crate::refusal::SIZE;
-use crate::refusal::VERSION;
+ghost use Rattle.format.specs.Refusals.{heading, isHold, isMark, noSize};
+use format::copying::number;
+use format::refusal::HOLD;
+use format::refusal::LENGTH;
+use format::refusal::MARK;
+use format::refusal::SHORT;
+use format::refusal::SIZE;
+use format::refusal::VERSION;
 
 // Whether x is one of the four letters.
 pub fn is_hold(x: u8) -> bool

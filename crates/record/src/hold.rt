@@ -1,11 +1,11 @@
 // Setting the hold: one letter, byte 5, and nothing else.
 ghost use Rattle.record.specs.Calls.{SetsHold};
 ghost use mathlib.Core.Path.{_≡_};
-ghost use Rattle.record.specs.Refusals.{holding};
+ghost use Rattle.format.specs.Refusals.{holding};
 use crate::reading::refusal_number;
-use crate::refusal::HOLD;
-use crate::refusal::Refusal;
-use crate::testing::is_hold;
+use format::refusal::HOLD;
+use format::refusal::Refusal;
+use crate::heading::is_hold;
 
 // Setting the hold's refusal, or 0: the letter's comes before the record's.
 fn holding_number(s: &[u8], letter: u8) -> u16

@@ -1,15 +1,8 @@
-// The record: the bytes that are the device's whole state, the hold mark among them. Reading, refusing, the hold;
-// and the copies and tests that packing shares.
-pub mod copying;
-mod filling;
+// A record as a whole: whether any bytes are one, or why not; reading its heading; the hold.
+pub mod heading;
 mod hold;
-mod links;
 pub mod reading;
-pub mod refusal;
-pub mod testing;
 
-pub use filling::fill_links;
-pub use filling::fill_table;
 pub use hold::set_hold;
 pub use reading::check;
 pub use reading::read;

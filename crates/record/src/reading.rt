@@ -3,12 +3,12 @@ ghost use mathlib.Core.Path.{_≡_};
 ghost use Prim.Native.Nat.{_≤_};
 ghost use lib.ListN.{length};
 ghost use Rattle.record.specs.Calls.{Checks, Reads};
-ghost use Rattle.record.specs.Fields.{sizeOf};
-ghost use Rattle.record.specs.Refusals.{refusal};
-use crate::copying::number;
-use crate::refusal::Refusal;
-use crate::testing::contents_number;
-use crate::testing::heading_number;
+ghost use Rattle.format.specs.Fields.{sizeOf};
+ghost use Rattle.format.specs.Refusals.{refusal};
+use format::copying::number;
+use format::refusal::Refusal;
+use contents::contents_number;
+use crate::heading::heading_number;
 
 // What an accepted record's heading says.
 pub struct Header {

@@ -21,7 +21,7 @@ fn into(
     let mut c = [0u16; 4];
     let mut d = [0u8; 3];
     let mut e = [0u8; 3];
-    let found = packing::unpack(
+    let found = unpacking::unpack(
         &s[..bytes],
         &mut a[..left],
         &mut b[..right],

@@ -14,13 +14,13 @@ use Rattle.tanglegram.specs.Table.{layout, orderOf}
 use Rattle.tanglegram.proofs.Tree.{leaves-once}
 use Rattle.tanglegram.proofs.Order.{order-perm}
 use Rattle.trees.specs.Rows.{upper, lower, size, treeOf, Good}
-use Rattle.record.specs.Fields.{numbers, bytes, sizeOf, parts, partsOf, linksAt}
-use Rattle.record.specs.Meaning.{tableOf, layoutsOf}
-use Rattle.record.specs.Refusals.{refusal}
-use Rattle.record.proofs.Acceptance.{accepted-sized}
-use Rattle.record.proofs.Stores.{length-numbers, length-bytes}
-use Rattle.record.proofs.Tables.{good-filled, size-filled, tree-filled}
-use Rattle.record.proofs.Meaning.{left-rule, right-rule, links-perm}
+use Rattle.format.specs.Fields.{numbers, bytes, sizeOf, parts, partsOf, linksAt}
+use Rattle.format.specs.Meaning.{tableOf, layoutsOf}
+use Rattle.format.specs.Refusals.{refusal}
+use Rattle.format.proofs.Acceptance.{accepted-sized}
+use Rattle.format.proofs.Stores.{length-numbers, length-bytes}
+use Rattle.format.proofs.Tables.{good-filled, size-filled, tree-filled}
+use Rattle.format.proofs.Meaning.{left-rule, right-rule, links-perm}
 use Rattle.standing.specs.Sides.{Given, rowsAt, layoutAt}
 
 -- an accepted record is given over as many leaves as it says

@@ -8,11 +8,11 @@ use Rattle.tanglegram.specs.Crossings.{pairs, inverted, count}
 use Rattle.tanglegram.specs.Entanglement.{sum, squared, displacement}
 use Rattle.tanglegram.specs.Run.{Side, left, right}
 use Rattle.tanglegram.specs.Table.{orderOf, crossings}
-use Rattle.crossings.specs.Arrays.{at, Holds, filled, crossAt}
-use Rattle.crossings.proofs.Held.{filled-holds}
+use Rattle.leaf_arrays.specs.Arrays.{at, Holds, filled, crossAt}
+use Rattle.leaf_arrays.proofs.Holding.{filled-holds}
 use Rattle.crossings.proofs.Count.{far-apart, near-apart, count-seen-left, count-pair-by-pair, displaced-is, ends-below}
-use Rattle.record.specs.Fields.{parts, partsOf}
-use Rattle.record.specs.Meaning.{tableOf, layoutsOf}
+use Rattle.format.specs.Fields.{parts, partsOf}
+use Rattle.format.specs.Meaning.{tableOf, layoutsOf}
 use Rattle.standing.specs.Sides.{Given, farPlace}
 use Rattle.standing.proofs.AsItStands.{side-perm, linked-once}
 use Rattle.standing.proofs.FarEnds.{order-taken}

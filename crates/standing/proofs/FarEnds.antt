@@ -14,14 +14,14 @@ use Rattle.tanglegram.specs.Crossings.{to, back}
 use Rattle.tanglegram.specs.Run.{Side, left, right}
 use Rattle.tanglegram.specs.Table.{orderOf}
 use Rattle.tanglegram.proofs.Lists.{all-length}
-use Rattle.crossings.specs.Arrays.{at, OneToN, Holds, filled}
-use Rattle.crossings.proofs.Arrays.{length-filled}
-use Rattle.crossings.proofs.Held.{filled-holds}
+use Rattle.leaf_arrays.specs.Arrays.{at, OneToN, Holds, filled}
+use Rattle.leaf_arrays.proofs.Arrays.{length-filled}
+use Rattle.leaf_arrays.proofs.Holding.{filled-holds}
 use Rattle.crossings.proofs.Count.{far-holds, near-holds}
-use Rattle.record.specs.Fields.{numbers, linksAt, parts}
-use Rattle.record.specs.Meaning.{tableOf, layoutsOf}
-use Rattle.record.proofs.Stores.{length-numbers}
-use Rattle.record.proofs.Tables.{take-sets}
+use Rattle.format.specs.Fields.{numbers, linksAt, parts}
+use Rattle.format.specs.Meaning.{tableOf, layoutsOf}
+use Rattle.format.proofs.Stores.{length-numbers}
+use Rattle.format.proofs.Tables.{take-sets}
 use Rattle.standing.specs.Sides.{isSide, Given, farPlace}
 use Rattle.standing.proofs.AsItStands.{side-perm, side-links, linked-once}
 

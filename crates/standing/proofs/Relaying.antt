@@ -9,8 +9,8 @@ use lib.Seq.{take-all, take-add, drop-drop}
 use Rattle.tanglegram.specs.Run.{Side, left, right}
 use Rattle.tanglegram.specs.Table.{layout, put}
 use Rattle.tanglegram.proofs.Lists.{append-nil}
-use Rattle.record.specs.Fields.{bytes, sizeOf, leftLayoutAt, rightLayoutAt, partsOf}
-use Rattle.record.specs.Meaning.{layoutsOf, relaid}
+use Rattle.format.specs.Fields.{bytes, sizeOf, leftLayoutAt, rightLayoutAt, partsOf}
+use Rattle.format.specs.Meaning.{layoutsOf, relaid}
 use Rattle.standing.specs.Sides.{Given, layoutAt}
 
 module _ (s : List ℕ) (n : ℕ) (g : Given s n) where

@@ -5,9 +5,9 @@ use Rattle.tanglegram.specs.Crossings.{count}
 use Rattle.tanglegram.specs.Entanglement.{displacement}
 use Rattle.tanglegram.specs.Run.{Side, left, right}
 use Rattle.tanglegram.specs.Table.{orderOf, crossings}
-use Rattle.record.specs.Fields.{sizeOf, parts}
+use Rattle.format.specs.Fields.{sizeOf, parts}
 use Rattle.record.specs.Calls.{accepted}
-use Rattle.record.specs.Meaning.{tableOf, layoutsOf}
+use Rattle.format.specs.Meaning.{tableOf, layoutsOf}
 
 -- A side's order, the count, and the displacement.
 abbrev pub shownOrder : List ℕ → Side → List ℕ

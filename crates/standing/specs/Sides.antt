@@ -7,10 +7,10 @@ use lib.Dec.{eqb}
 use Rattle.tanglegram.specs.Crossings.{end}
 use Rattle.tanglegram.specs.Run.{Side, left, right}
 use Rattle.tanglegram.specs.Table.{orderOf}
-use Rattle.crossings.specs.Arrays.{begin}
-use Rattle.record.specs.Fields.{rightAt, leftLayoutAt, rightLayoutAt, parts, Sized}
-use Rattle.record.specs.Refusals.{refusal}
-use Rattle.record.specs.Meaning.{tableOf, layoutsOf}
+use Rattle.leaf_arrays.specs.Arrays.{begin}
+use Rattle.format.specs.Fields.{rightAt, leftLayoutAt, rightLayoutAt, parts, Sized}
+use Rattle.format.specs.Refusals.{refusal}
+use Rattle.format.specs.Meaning.{tableOf, layoutsOf}
 
 -- 1 is left and 2 is right.
 unfoldable pub isSide : ℕ → Bool

@@ -5,8 +5,8 @@ ghost use mathlib.Core.Path.{_≡_};
 ghost use Prim.Native.Nat.{_≤_};
 ghost use lib.ListN.{drop, length, take};
 ghost use lib.Seq.{sets};
-ghost use Rattle.crossings.specs.Arrays.{Holds};
-ghost use Rattle.record.specs.Meaning.{layoutsOf, tableOf};
+ghost use Rattle.leaf_arrays.specs.Arrays.{Holds};
+ghost use Rattle.format.specs.Meaning.{layoutsOf, tableOf};
 ghost use Rattle.standing.specs.Sides.{farPlace, Given, isSide, layoutAt, rowsAt, sideOf};
 ghost use Rattle.tanglegram.specs.Table.{orderOf};
 
@@ -42,7 +42,7 @@ pub fn side_order(s: &[u8], n: u16, side: u16, out: &mut [u16; 512])
         ⌝ }
 {
     let mut tab = [0u16; 1023];
-    record::fill_table(s, rows_at(n, side), n, &mut tab);
+    format::fill_table(s, rows_at(n, side), n, &mut tab);
     let from = layout_at(n, side);
     let to = from + (n as usize - 1);
     trees::layout_order(&tab, &s[from..to], out);
@@ -58,13 +58,13 @@ pub fn far_places(s: &[u8], n: u16, side: u16, out: &mut [u16; 512])
     let mut order = [0u16; 512];
     side_order(s, n, 3 - side, &mut order);
     let mut places = [0u16; 512];
-    crossings::places(&order, k, &mut places);
+    leaf_arrays::places(&order, k, &mut places);
     let mut links = [0u16; 512];
-    record::fill_links(s, 8 + 8 * (k - 1), n, &mut links);
+    format::fill_links(s, 8 + 8 * (k - 1), n, &mut links);
     if side == 1 {
-        crossings::far_ends(&links, &places, k, out);
+        leaf_arrays::far_ends(&links, &places, k, out);
     } else {
-        crossings::near_ends(&links, &places, k, out);
+        leaf_arrays::near_ends(&links, &places, k, out);
     }
 }
 

@@ -1,7 +1,7 @@
 // The crossings of an accepted record over n leaves, counted two ways, and its displacement.
 ghost use mathlib.Core.Path.{_≡_};
-ghost use Rattle.record.specs.Fields.{parts};
-ghost use Rattle.record.specs.Meaning.{layoutsOf, tableOf};
+ghost use Rattle.format.specs.Fields.{parts};
+ghost use Rattle.format.specs.Meaning.{layoutsOf, tableOf};
 ghost use Rattle.standing.specs.Sides.{Given};
 ghost use Rattle.tanglegram.specs.Entanglement.{displacement};
 ghost use Rattle.tanglegram.specs.Run.{left, right};
@@ -29,7 +29,7 @@ pub fn crossings_paired(s: &[u8], n: u16) -> u32
     let mut order = [0u16; 512];
     side_order(s, n, 1, &mut order);
     let mut places = [0u16; 512];
-    crossings::places(&order, n as usize, &mut places);
+    leaf_arrays::places(&order, n as usize, &mut places);
     let mut far = [0u16; 512];
     far_places(s, n, 1, &mut far);
     crossings::count_pairs(&places, &far, n as usize)
@@ -47,8 +47,8 @@ pub fn displacement_of(s: &[u8], n: u16) -> u32
     let mut order = [0u16; 512];
     side_order(s, n, 1, &mut order);
     let mut places = [0u16; 512];
-    crossings::places(&order, n as usize, &mut places);
+    leaf_arrays::places(&order, n as usize, &mut places);
     let mut far = [0u16; 512];
     far_places(s, n, 1, &mut far);
-    crossings::displaced(&places, &far, n as usize)
+    displacement::displaced(&places, &far, n as usize)
 }

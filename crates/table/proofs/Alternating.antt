@@ -9,10 +9,10 @@ use Rattle.tanglegram.specs.Lists.{bit}
 use Rattle.tanglegram.specs.Run.{left, right, other, End, more, go, run}
 use Rattle.tanglegram.specs.Table.{crossings, free}
 use Rattle.tanglegram.proofs.Run.{go-gain, go-stop}
-use Rattle.record.specs.Fields.{sizeOf}
-use Rattle.record.specs.Meaning.{tableOf, layoutsOf, relaid}
-use Rattle.record.proofs.Acceptance.{accepted-sized}
-use Rattle.record.proofs.Meaning.{length-left, length-right, relaid-again, relaid-same}
+use Rattle.format.specs.Fields.{sizeOf}
+use Rattle.format.specs.Meaning.{tableOf, layoutsOf, relaid}
+use Rattle.format.proofs.Acceptance.{accepted-sized}
+use Rattle.format.proofs.Meaning.{length-left, length-right, relaid-again, relaid-same}
 use Rattle.standing.specs.Sides.{isSide, sideOf, Given}
 use Rattle.standing.specs.Shown.{shownCount}
 use Rattle.table.specs.Calls.{ranTo, onward, Turned}

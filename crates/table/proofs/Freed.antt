@@ -15,18 +15,16 @@ use Rattle.tanglegram.proofs.Lists.{each-map, each-perm}
 use Rattle.tanglegram.specs.Freeing.{freed}
 use Rattle.tanglegram.proofs.Table.{Fair}
 use Rattle.tanglegram.proofs.Freeing.{length-freed, freed-bytes, freed-cong}
-use Rattle.record.specs.Fields.{sizeOf, parts}
-use Rattle.record.specs.Refusals.{isLayout}
-use Rattle.record.specs.Meaning.{tableOf, layoutsOf, relaid}
-use Rattle.record.proofs.Acceptance.{accepted-sized, accepted-parts}
-use Rattle.record.proofs.Meaning.{accepted-fair, accepted-fits, length-left, length-right, relaid-accepted, size-relaid}
-use Rattle.record.proofs.Meaning.{table-relaid, layouts-of-relaid, relaid-again}
-use Rattle.record.proofs.Contents.{GoodParts}
-use Rattle.record.proofs.Tests.{all-each, each-all}
-use Rattle.crossings.specs.Arrays.{at, Holds}
+use Rattle.format.specs.Fields.{sizeOf, parts}
+use Rattle.format.specs.Refusals.{isLayout}
+use Rattle.format.specs.Meaning.{tableOf, layoutsOf, relaid}
+use Rattle.format.proofs.Acceptance.{accepted-sized, accepted-parts}
+use Rattle.format.proofs.Meaning.{accepted-fair, accepted-fits, length-left, length-right, relaid-accepted, size-relaid, table-relaid, layouts-of-relaid, relaid-again}
+use Rattle.format.proofs.Contents.{GoodParts}
+use Rattle.format.proofs.Tests.{all-each, each-all}
+use Rattle.leaf_arrays.specs.Arrays.{at, Holds}
 use Rattle.standing.specs.Sides.{Given, farPlace}
-use Rattle.standing.proofs.AsItStands.{side-leaves}
-use Rattle.standing.proofs.AsItStands.{given-size}
+use Rattle.standing.proofs.AsItStands.{side-leaves, given-size}
 
 module _ (s : List ℕ) (n : ℕ) (g : Given s n) where
   says : n ≡ sizeOf s

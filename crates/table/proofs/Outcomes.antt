@@ -12,21 +12,20 @@ use lib.Seq.{sets}
 use Rattle.tanglegram.specs.Entanglement.{displacement, worst}
 use Rattle.tanglegram.specs.Run.{left, right}
 use Rattle.tanglegram.proofs.Lists.{all-length}
-use Rattle.record.specs.Fields.{sizeOf, parts}
-use Rattle.record.specs.Refusals.{refusal}
+use Rattle.format.specs.Fields.{sizeOf, parts}
+use Rattle.format.specs.Refusals.{refusal}
 use Rattle.record.specs.Calls.{refused}
-use Rattle.record.proofs.Acceptance.{else-first, none-both}
-use Rattle.record.proofs.Heading.{none-first, not-no}
+use Rattle.format.proofs.Acceptance.{else-first, none-both}
+use Rattle.format.proofs.Heading.{none-first, not-no}
 use Rattle.record.proofs.Outcomes.{lent-refused, lent-accepted}
-use Rattle.record.proofs.Stores.{sets-front}
+use Rattle.format.proofs.Stores.{sets-front}
 use Rattle.table.specs.declared.answers.Entangled.the-variants.{Ratio, NoRatio, Refused}
 use Rattle.standing.specs.Sides.{isSide, sideOf}
 use Rattle.table.specs.Refusals.{ordering}
 use Rattle.standing.specs.Shown.{shownOrder, shownCount}
 use Rattle.table.specs.Calls.{Orders, Counts, ratio, entangled, Entangles}
-use Rattle.standing.proofs.AsItStands.{side-perm}
+use Rattle.standing.proofs.AsItStands.{side-perm, given-size}
 use Rattle.standing.proofs.FarEnds.{order-taken}
-use Rattle.standing.proofs.AsItStands.{given-size}
 
 module _ (s : List ℕ) where
   -- ---- counts

@@ -8,11 +8,11 @@ use native.Mathlib.Omega.{arith}
 use borrow.Author.Tests.{eq-eqb, ne-eqb, lt-ltb, le-ltb}
 use Rattle.tanglegram.specs.Run.{Side, left, right}
 use Rattle.tanglegram.specs.Table.{crossings, free}
-use Rattle.record.specs.Fields.{holdOf}
-use Rattle.record.specs.Refusals.{refusal}
-use Rattle.record.specs.Meaning.{tableOf, layoutsOf, relaid}
-use Rattle.record.proofs.Acceptance.{else-first, none-both}
-use Rattle.record.proofs.Heading.{none-first, not-no}
+use Rattle.format.specs.Fields.{holdOf}
+use Rattle.format.specs.Refusals.{refusal}
+use Rattle.format.specs.Meaning.{tableOf, layoutsOf, relaid}
+use Rattle.format.proofs.Acceptance.{else-first, none-both}
+use Rattle.format.proofs.Heading.{none-first, not-no}
 use Rattle.standing.specs.Sides.{isSide, sideOf, holds, Given}
 use Rattle.table.specs.Refusals.{freeing, noAllowance, running}
 use Rattle.standing.specs.Shown.{shownCount}

@@ -11,11 +11,11 @@ use Rattle.tanglegram.specs.Crossings.{count}
 use Rattle.tanglegram.specs.Entanglement.{worst}
 use Rattle.tanglegram.specs.Run.{right, End, more, go, run}
 use Rattle.tanglegram.specs.Table.{Layouts, crossings, free}
-use Rattle.record.specs.declared.refusal.Refusal.{Refusal}
-use Rattle.record.specs.Fields.{sizeOf}
-use Rattle.record.specs.Refusals.{refusal}
+use Rattle.format.specs.declared.refusal.Refusal.{Refusal}
+use Rattle.format.specs.Fields.{sizeOf}
+use Rattle.format.specs.Refusals.{refusal}
 use Rattle.record.specs.Calls.{refused, accepted, lent, orZero}
-use Rattle.record.specs.Meaning.{tableOf, layoutsOf, relaid}
+use Rattle.format.specs.Meaning.{tableOf, layoutsOf, relaid}
 use Rattle.table.specs.declared.answers.Counted.{Counted}
 use Rattle.table.specs.declared.answers.Freed.{Freed}
 use Rattle.table.specs.declared.answers.Ran.{Ran}

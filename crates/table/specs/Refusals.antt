@@ -6,8 +6,8 @@ use lib.Dec.{eqb, ltb}
 use lib.ListN.{length}
 use Rattle.tanglegram.specs.Order.{order}
 use Rattle.tanglegram.specs.Run.{left, right}
-use Rattle.record.specs.Fields.{holdOf, sizeOf}
-use Rattle.record.specs.Refusals.{_when_else_, orElse, refusal}
+use Rattle.format.specs.Fields.{holdOf, sizeOf}
+use Rattle.format.specs.Refusals.{_when_else_, orElse, refusal}
 use Rattle.standing.specs.Sides.{isSide, sideOf, holds}
 
 -- The order of a side, into a buffer.

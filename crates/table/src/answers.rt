@@ -1,5 +1,5 @@
 // What the calls answer. Each carries its refusal, and zero for every other number where it refuses.
-use record::refusal::Refusal;
+use format::refusal::Refusal;
 
 // A count of crossings.
 pub struct Counted {

@@ -4,9 +4,9 @@ ghost use Rattle.table.specs.Calls.{Counts, Entangles, Orders};
 ghost use Rattle.table.specs.Refusals.{ordering};
 use crate::answers::Counted;
 use crate::answers::Entangled;
-use record::refusal::ROOM;
-use record::refusal::Refusal;
-use record::refusal::SIDE;
+use format::refusal::ROOM;
+use format::refusal::Refusal;
+use format::refusal::SIDE;
 use standing::copy_order;
 use standing::crossings_paired;
 use standing::crossings_seen;
@@ -93,6 +93,6 @@ pub fn entanglement(s: &[u8]) -> Entangled
         return Entangled::NoRatio;
     }
     let d = displacement_of(s, n);
-    let w = crossings::worst_value(n as usize);
+    let w = displacement::worst_value(n as usize);
     Entangled::Ratio(d, w, (d as f64) / (w as f64))
 }

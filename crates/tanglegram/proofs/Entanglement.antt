@@ -13,8 +13,7 @@ use lib.ListN.{length, getD, length-map}
 use Rattle.tanglegram.specs.Lists.{Each, Distinct, range, place}
 use Rattle.tanglegram.specs.Crossings.{to, end}
 use Rattle.tanglegram.specs.Entanglement.{squared, sum, displacement, worst}
-use Rattle.tanglegram.proofs.Lists.{each-map, each-zip, each-perm, all-distinct, all-length}
-use Rattle.tanglegram.proofs.Lists.{range-snoc, place-head, place-tail}
+use Rattle.tanglegram.proofs.Lists.{each-map, each-zip, each-perm, all-distinct, all-length, range-snoc, place-head, place-tail}
 
 -- ---- squares of differences
 

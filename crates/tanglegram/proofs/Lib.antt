@@ -11,3 +11,4 @@ pub mod Entanglement
 pub mod Turning
 pub mod Table
 pub mod Bench
+pub mod ListSums

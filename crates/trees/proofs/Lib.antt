@@ -2,10 +2,5 @@ pub mod Table
 pub mod Stores
 pub mod Objects
 pub mod Walked
-pub mod Rule
-pub mod Marks
 pub mod Exchanged
 pub mod Places
-pub mod Reading
-pub mod Prefix
-pub mod Matched

@@ -1,4 +1,2 @@
 pub mod Rows
-pub mod Rule
 pub mod Exchange
-pub mod Match

@@ -2,10 +2,10 @@
 use Prim.Native.Nat.{ℕ}
 use mathlib.Core.Path.{_≡_}
 use mathlib.Core.List.{List}
-use Rattle.record.specs.Fields.{holdOf, sizeOf, parts}
+use Rattle.format.specs.Fields.{holdOf, sizeOf, parts}
 use Rattle.record.specs.Calls.{refused, lent, orZero}
-use Rattle.packing.specs.declared.unpacking.Unpacked.{Unpacked}
-use Rattle.packing.specs.Refusals.{unpacking}
+use Rattle.unpacking.specs.declared.unpacking.Unpacked.{Unpacked}
+use Rattle.unpacking.specs.Refusals.{unpacking}
 
 -- What it answers if refused.
 abbrev pub unpackedNone : ℕ → Unpacked

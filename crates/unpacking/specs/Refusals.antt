@@ -3,8 +3,8 @@ use Prim.Native.Nat.{ℕ, _-_, _*_}
 use mathlib.Core.List.{List}
 use lib.Dec.{ltb}
 use lib.ListN.{length}
-use Rattle.record.specs.Fields.{sizeOf}
-use Rattle.record.specs.Refusals.{_when_else_, orElse, refusal}
+use Rattle.format.specs.Fields.{sizeOf}
+use Rattle.format.specs.Refusals.{_when_else_, orElse, refusal}
 
 -- The room, with the number of places of each buffer: for the left rows, the right rows, the links and the two layouts.
 unfoldable pub room : ℕ → ℕ → ℕ → ℕ → ℕ → ℕ → ℕ

@@ -9,8 +9,8 @@ use lib.ListN.{length, set, drop, replicate}
 use Rattle.tanglegram.specs.Order.{order}
 use lib.Seq.{paste}
 use Rattle.trees.specs.Rows.{size, upper, lower, treeOf, Good}
-use Rattle.trees.specs.Rule.{badRow}
-use Rattle.trees.proofs.Rule.{no-bad-row-good}
+use Rattle.tree_rule.specs.Rule.{badRow}
+use Rattle.tree_rule.proofs.Rule.{no-bad-row-good}
 use Rattle.gauge.specs.Gauge.{sizes, tableOf}
 use Rattle.gauge.proofs.Orders.{Sized, sizes-sized, size-table, array-long, copied-order, wrong-sizes, wrong-row, ordered}
 use Rattle.gauge.proofs.gauge_order.Statement.{statement}

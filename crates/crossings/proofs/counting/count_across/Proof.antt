@@ -7,7 +7,7 @@ use lib.ListN.{take, drop, length-drop}
 use lib.Seq.{getD-drop}
 use Rattle.tanglegram.specs.Crossings.{across}
 use Rattle.tanglegram.proofs.Sums.{across-nil}
-use Rattle.crossings.specs.Arrays.{falls}
+use Rattle.leaf_arrays.specs.Arrays.{falls}
 use Rattle.crossings.proofs.Runs.{across-next}
 use Rattle.crossings.proofs.counting.count_across.Statement.{statement}
 use Rattle.crossings.proofs.counting.count_across.Tie as tie

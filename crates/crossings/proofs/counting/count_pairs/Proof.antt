@@ -6,7 +6,7 @@ use lib.ListN.{length}
 use Rattle.tanglegram.specs.Crossings.{crosses, pairs}
 use Rattle.tanglegram.specs.Lists.{range}
 use Rattle.tanglegram.proofs.Lists.{length-range}
-use Rattle.crossings.specs.Arrays.{at, crossAt}
+use Rattle.leaf_arrays.specs.Arrays.{at, crossAt}
 use Rattle.crossings.proofs.Runs.{pairs-fit, pairs-last}
 use Rattle.crossings.proofs.counting.count_pairs.Statement.{statement}
 use Rattle.crossings.proofs.counting.count_pairs.Tie as tie

@@ -2,7 +2,7 @@
 use Prim.Native.Nat.{_+_, _-_, _≤_}
 use native.Mathlib.Omega.{arith}
 use lib.ListN.{getD}
-use Rattle.crossings.specs.Arrays.{Linked}
+use Rattle.leaf_arrays.specs.Arrays.{Linked}
 use Rattle.crossings.proofs.Runs.{SeenRun, run-none, run-linked, run-more, run-small, run-all}
 use Rattle.crossings.proofs.counting.count_seen.Statement.{statement}
 use Rattle.crossings.proofs.counting.count_seen.Tie as tie

@@ -6,7 +6,7 @@ use native.Mathlib.Omega.{arith}
 use borrow.Author.Needs.{needs}
 use Rattle.tanglegram.specs.Crossings.{across}
 use Rattle.tanglegram.specs.Lists.{range}
-use Rattle.crossings.specs.Arrays.{crossAt}
+use Rattle.leaf_arrays.specs.Arrays.{crossAt}
 use Rattle.crossings.proofs.Runs.{across-last}
 use Rattle.crossings.proofs.counting.crossed_before.Statement.{statement}
 use Rattle.crossings.proofs.counting.crossed_before.Tie as tie

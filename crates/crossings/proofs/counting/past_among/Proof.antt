@@ -7,7 +7,7 @@ use borrow.Author.Needs.{needs}
 use lib.ListN.{take, drop, length-drop}
 use lib.Seq.{getD-drop}
 use Rattle.tanglegram.specs.Crossings.{across}
-use Rattle.crossings.specs.Arrays.{falls}
+use Rattle.leaf_arrays.specs.Arrays.{falls}
 use Rattle.crossings.proofs.Runs.{across-first}
 use Rattle.crossings.proofs.counting.past_among.Statement.{statement}
 use Rattle.crossings.proofs.counting.past_among.Tie as tie

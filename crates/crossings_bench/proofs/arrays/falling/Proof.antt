@@ -3,8 +3,8 @@ use Prim.Native.Nat.{pred, _-_, _≤_}
 use mathlib.Core.Path.{_≡_, ap, _∙_}
 use native.Mathlib.Omega.{arith}
 use borrow.Author.Needs.{needs}
-use Rattle.crossings.specs.Arrays.{filled}
-use Rattle.crossings.proofs.Arrays.{filled-none, filled-more}
+use Rattle.leaf_arrays.specs.Arrays.{filled}
+use Rattle.leaf_arrays.proofs.Arrays.{filled-none, filled-more}
 use Rattle.crossings_bench.proofs.Once.{falling-once}
 use Rattle.crossings_bench.proofs.arrays.falling.Statement.{statement}
 use Rattle.crossings_bench.proofs.arrays.falling.Tie as tie

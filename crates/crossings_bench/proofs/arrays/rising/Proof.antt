@@ -5,8 +5,8 @@ use native.Mathlib.Numerals.{add-one}
 use native.Mathlib.Omega.{arith}
 use borrow.Author.Needs.{needs}
 use lib.ListN.{set}
-use Rattle.crossings.specs.Arrays.{filled}
-use Rattle.crossings.proofs.Arrays.{filled-none, filled-more}
+use Rattle.leaf_arrays.specs.Arrays.{filled}
+use Rattle.leaf_arrays.proofs.Arrays.{filled-none, filled-more}
 use Rattle.crossings_bench.proofs.Once.{rising-once}
 use Rattle.crossings_bench.proofs.arrays.rising.Statement.{statement}
 use Rattle.crossings_bench.proofs.arrays.rising.Tie as tie

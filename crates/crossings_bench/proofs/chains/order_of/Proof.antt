@@ -2,7 +2,7 @@
 use mathlib.Core.Path.{refl, sym, _∙_}
 use borrow.Author.Needs.{needs}
 use borrow.Author.Tests.{eq-eqb, ne-eqb}
-use Rattle.trees.proofs.Rule.{no-bad-row-good}
+use Rattle.tree_rule.proofs.Rule.{no-bad-row-good}
 use Rattle.crossings_bench.proofs.chains.order_of.Statement.{statement}
 use Rattle.crossings_bench.proofs.chains.order_of.Tie as tie
 

@@ -6,8 +6,8 @@ use borrow.Author.Needs.{needs}
 use lib.ListN.{getD}
 use Rattle.tanglegram.specs.Entanglement.{sum}
 use Rattle.tanglegram.specs.Lists.{range}
-use Rattle.crossings.specs.Arrays.{at}
-use Rattle.crossings.proofs.Sum.{sum-last}
+use Rattle.leaf_arrays.specs.Arrays.{at}
+use Rattle.tanglegram.proofs.ListSums.{sum-last}
 use Rattle.crossings_bench.specs.Bench.{checksum}
 use Rattle.crossings_bench.proofs.chains.sum_of.Statement.{statement}
 use Rattle.crossings_bench.proofs.chains.sum_of.Tie as tie

@@ -4,7 +4,7 @@ use borrow.Author.Needs.{needs}
 use lib.ListN.{take}
 use Rattle.tanglegram.specs.Lists.{place}
 use Rattle.crossings.proofs.Count.{count-pair-by-pair}
-use Rattle.crossings.proofs.Held.{filled-holds}
+use Rattle.leaf_arrays.proofs.Holding.{filled-holds}
 use Rattle.crossings_bench.proofs.counts.by_pairs.Statement.{statement}
 use Rattle.crossings_bench.proofs.counts.by_pairs.Tie as tie
 

@@ -3,9 +3,9 @@ use mathlib.Core.Path.{_∙_}
 use borrow.Author.Needs.{needs}
 use lib.ListN.{take}
 use Rattle.tanglegram.specs.Lists.{place}
-use Rattle.crossings.specs.Arrays.{Holds}
+use Rattle.leaf_arrays.specs.Arrays.{Holds}
 use Rattle.crossings.proofs.Count.{displaced-is, ends-below}
-use Rattle.crossings.proofs.Held.{filled-holds}
+use Rattle.leaf_arrays.proofs.Holding.{filled-holds}
 use Rattle.crossings_bench.proofs.counts.displacement.Statement.{statement}
 use Rattle.crossings_bench.proofs.counts.displacement.Tie as tie
 

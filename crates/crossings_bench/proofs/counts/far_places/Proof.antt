@@ -2,9 +2,9 @@
 use borrow.Author.Needs.{needs}
 use lib.ListN.{take}
 use Rattle.tanglegram.specs.Lists.{place}
-use Rattle.crossings.proofs.Arrays.{one-to}
+use Rattle.leaf_arrays.proofs.Arrays.{one-to}
 use Rattle.crossings.proofs.Count.{far-holds}
-use Rattle.crossings.proofs.Held.{filled-holds}
+use Rattle.leaf_arrays.proofs.Holding.{filled-holds}
 use Rattle.crossings_bench.proofs.counts.far_places.Statement.{statement}
 use Rattle.crossings_bench.proofs.counts.far_places.Tie as tie
 

@@ -3,9 +3,9 @@ use mathlib.Core.Path.{_∙_}
 use borrow.Author.Needs.{needs}
 use lib.ListN.{take}
 use Rattle.tanglegram.specs.Lists.{place}
-use Rattle.crossings.specs.Arrays.{Holds, begin}
+use Rattle.leaf_arrays.specs.Arrays.{Holds, begin}
 use Rattle.crossings.proofs.Count.{near-holds, near-apart, count-seen-right}
-use Rattle.crossings.proofs.Held.{filled-holds}
+use Rattle.leaf_arrays.proofs.Holding.{filled-holds}
 use Rattle.crossings_bench.proofs.counts.from_right.Statement.{statement}
 use Rattle.crossings_bench.proofs.counts.from_right.Tie as tie
 

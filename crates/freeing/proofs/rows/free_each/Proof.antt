@@ -10,7 +10,7 @@ use Rattle.tanglegram.specs.Crossings.{inverted}
 use Rattle.tanglegram.specs.Lists.{place}
 use Rattle.tanglegram.specs.Tree.{leaves}
 use Rattle.trees.specs.Rows.{size, treeOf}
-use Rattle.crossings.specs.Arrays.{at}
+use Rattle.leaf_arrays.specs.Arrays.{at}
 use Rattle.freeing.proofs.Counted.{Noted, Parts, noted-leaves, noted-more, parts, first-below, second-below}
 use Rattle.freeing.proofs.Seen.{order-long, order-first, order-leaves, seen-long, seen-first}
 use Rattle.freeing.proofs.Freed.{FreedTo, freed-none, freed-more, freed-all}

@@ -51,11 +51,11 @@ use denote.Triple.Spec.{Meets, tripleOf}
 use denote.Triple.Table.{entered, cited}
 use denote.Triple.Walked.{says, Stays, stay-slice, stay-none-slice, walkOf, goes-slice, goes-none-slice, Walks, ends-at, walked, walk-meets}
 use denote.Exit.{yes}
-use Rattle.record.specs.declared.refusal.Refusal.{Refusal}
-use Rattle.record.specs.Fields.{holdOf, sizeOf}
-use Rattle.record.specs.Meaning.{layoutsOf, relaid}
-use Rattle.record.proofs.refusal.Refusal as E
-use Rattle.record.proofs.refusal.Refusal.Laws as E′
+use Rattle.format.specs.declared.refusal.Refusal.{Refusal}
+use Rattle.format.specs.Fields.{holdOf, sizeOf}
+use Rattle.format.specs.Meaning.{layoutsOf, relaid}
+use Rattle.format.proofs.refusal.Refusal as E
+use Rattle.format.proofs.refusal.Refusal.Laws as E′
 use Rattle.hands.specs.declared.hand_entries.HandEntry.{HandEntry}
 use Rattle.standing.specs.Sides.{Given as Accepted}
 use Rattle.hands.specs.Refusals.{Hand, hand, handing}

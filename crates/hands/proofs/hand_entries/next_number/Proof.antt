@@ -1,7 +1,7 @@
 -- `table::hand_entries::next_number` meets its contract: the refusal found so far, or that of the entry.
 use mathlib.Core.Path.{sym, ap, _∙_}
-use Rattle.record.specs.Fields.{holdOf}
-use Rattle.record.proofs.Acceptance.{else-first, else-second}
+use Rattle.format.specs.Fields.{holdOf}
+use Rattle.format.proofs.Acceptance.{else-first, else-second}
 use Rattle.hands.specs.Refusals.{badHand, hand}
 use borrow.Author.Needs.{needs}
 use Rattle.hands.proofs.hand_entries.next_number.Statement.{statement}

@@ -50,8 +50,8 @@ use denote.Triple.Spec.{Meets, tripleOf}
 use denote.Triple.Table.{entered, cited}
 use denote.Triple.Walked.{says, Stays, stay-none-slice, walkOf, goes-none-slice, Walks, ends-at, walked, walk-meets}
 use denote.Exit.{yes}
-use Rattle.record.specs.Fields.{holdOf, sizeOf}
-use Rattle.record.specs.Refusals.{orElse, refusal}
+use Rattle.format.specs.Fields.{holdOf, sizeOf}
+use Rattle.format.specs.Refusals.{orElse, refusal}
 use Rattle.hands.specs.declared.hand_entries.HandEntry.{HandEntry}
 use Rattle.hands.specs.Refusals.{hand, badHand, handing}
 use Rattle.hands.specs.Entries.{handIn}

@@ -1,7 +1,7 @@
 -- `table::handing::hands` meets its contract: the list's number and the record, then the entries, then the turning.
 use mathlib.Core.Path.{_≡_, sym, _∙_}
 use native.Mathlib.Omega.{arith}
-use Rattle.record.specs.Refusals.{refusal}
+use Rattle.format.specs.Refusals.{refusal}
 use Rattle.hands.specs.Refusals.{handOf}
 use Rattle.standing.proofs.AsItStands.{long-enough, given-size}
 use Rattle.hands.proofs.HandLists.{first-accepted, first-refused, second-refused, second-accepted}

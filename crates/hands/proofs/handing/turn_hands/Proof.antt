@@ -3,8 +3,8 @@ use Prim.Native.Nat.{_-_}
 use mathlib.Core.Path.{sym, ap₂, _∙_}
 use mathlib.Core.List.{[], _∷_, map}
 use lib.ListN.{length, drop}
-use Rattle.record.specs.Fields.{holdOf}
-use Rattle.record.specs.Meaning.{layoutsOf, relaid}
+use Rattle.format.specs.Fields.{holdOf}
+use Rattle.format.specs.Meaning.{layoutsOf, relaid}
 use Rattle.hands.specs.Refusals.{hand, handOf}
 use Rattle.hands.specs.Calls.{handed}
 use Rattle.hands.proofs.HandLists.{rest-cons, rest-none}

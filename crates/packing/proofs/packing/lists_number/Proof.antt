@@ -1,6 +1,6 @@
 -- `lists_number` gives the first of the tests of the rows, the links and the layouts that holds.
-use Rattle.record.proofs.Heading.{passed, failed}
-use Rattle.record.proofs.Contents.{broken, kept, contents-7, contents-8, contents-9, contents-10, contents-10-right, contents-0}
+use Rattle.format.proofs.Heading.{passed, failed}
+use Rattle.format.proofs.Contents.{broken, kept, contents-7, contents-8, contents-9, contents-10, contents-10-right, contents-0}
 use borrow.Author.Needs.{needs}
 use Rattle.packing.proofs.packing.lists_number.Statement.{statement}
 use Rattle.packing.proofs.packing.lists_number.Tie as tie

@@ -3,7 +3,7 @@ use mathlib.Core.Path.{refl, sym, _∙_}
 use native.Mathlib.Omega.{arith}
 use borrow.Author.Tests.{eq-eqb, ne-eqb}
 use Rattle.packing.specs.Refusals.{shape}
-use Rattle.record.proofs.Heading.{passed, failed, sized}
+use Rattle.format.proofs.Heading.{passed, failed, sized}
 use borrow.Author.Needs.{needs}
 use Rattle.packing.proofs.packing.shape_number.Statement.{statement}
 use Rattle.packing.proofs.packing.shape_number.Tie as tie

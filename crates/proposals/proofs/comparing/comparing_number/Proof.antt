@@ -2,7 +2,7 @@
 use mathlib.Core.Path.{_≡_, sym, _∙_}
 use mathlib.Core.Bool.{true}
 use borrow.Author.Tests.{not-true, not-false}
-use Rattle.record.specs.Refusals.{refusal}
+use Rattle.format.specs.Refusals.{refusal}
 use Rattle.standing.specs.Sides.{isSide}
 use Rattle.standing.proofs.AsItStands.{long-enough, given-size}
 use Rattle.proposals.proofs.Compared.{Proposes, comparing-13, comparing-record, comparing-first, comparing-second, comparing-0}

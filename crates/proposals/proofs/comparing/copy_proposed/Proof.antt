@@ -5,7 +5,7 @@ use mathlib.Core.Path.{_≡_}
 use native.Mathlib.Omega.{arith}
 use lib.ListN.{length, take, length-set}
 use lib.Seq.{sets}
-use Rattle.record.proofs.Stores.{store-entry}
+use Rattle.format.proofs.Stores.{store-entry}
 use Rattle.proposals.proofs.comparing.copy_proposed.Statement.{statement}
 use Rattle.proposals.proofs.comparing.copy_proposed.Tie as tie
 

@@ -1,7 +1,7 @@
 -- `holding_number` gives the letter's refusal, or else the record's.
 use mathlib.Core.Path.{refl}
-use Rattle.record.specs.Refusals.{holding}
-use Rattle.record.proofs.Heading.{passed, failed}
+use Rattle.format.specs.Refusals.{holding}
+use Rattle.format.proofs.Heading.{passed, failed}
 use borrow.Author.Needs.{needs}
 use Rattle.record.proofs.hold.holding_number.Statement.{statement}
 use Rattle.record.proofs.hold.holding_number.Tie as tie

@@ -1,9 +1,9 @@
 -- `refusal_number` gives the heading's refusal, or else that of the parts.
 use mathlib.Core.Path.{sym, ap, _∙_, subst}
 use native.Mathlib.Omega.{arith}
-use Rattle.record.specs.Fields.{Sized, partsOf}
-use Rattle.record.specs.Refusals.{contents}
-use Rattle.record.proofs.Acceptance.{refusal-heading, refusal-contents, heading-sized}
+use Rattle.format.specs.Fields.{Sized, partsOf}
+use Rattle.format.specs.Refusals.{contents}
+use Rattle.format.proofs.Acceptance.{refusal-heading, refusal-contents, heading-sized}
 use borrow.Author.Needs.{needs}
 use Rattle.record.proofs.reading.refusal_number.Statement.{statement}
 use Rattle.record.proofs.reading.refusal_number.Tie as tie

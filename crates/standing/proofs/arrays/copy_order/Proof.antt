@@ -4,7 +4,7 @@ use mathlib.Core.Path.{_≡_, refl}
 use native.Mathlib.Omega.{arith}
 use lib.ListN.{length, take, length-set}
 use lib.Seq.{sets}
-use Rattle.record.proofs.Stores.{store-entry}
+use Rattle.format.proofs.Stores.{store-entry}
 use borrow.Author.Needs.{needs}
 use Rattle.standing.proofs.arrays.copy_order.Statement.{statement}
 use Rattle.standing.proofs.arrays.copy_order.Tie as tie

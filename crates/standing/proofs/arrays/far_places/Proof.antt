@@ -2,7 +2,7 @@
 use Prim.Native.Nat.{_-_}
 use mathlib.Core.Path.{refl, sym, ap, _∙_}
 use native.Mathlib.Omega.{arith}
-use Rattle.crossings.proofs.Arrays.{one-to}
+use Rattle.leaf_arrays.proofs.Arrays.{one-to}
 use Rattle.standing.specs.Sides.{sideOf}
 use Rattle.standing.proofs.FarEnds.{side-most, second-side, order-one, links-one, far-left, far-right}
 use borrow.Author.Needs.{needs}

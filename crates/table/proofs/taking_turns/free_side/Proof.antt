@@ -5,9 +5,9 @@ use lib.ListN.{length}
 use Rattle.tanglegram.specs.Crossings.{inverted}
 use Rattle.tanglegram.specs.Freeing.{freed}
 use Rattle.tanglegram.specs.Table.{layout, put}
-use Rattle.crossings.specs.Arrays.{at}
+use Rattle.leaf_arrays.specs.Arrays.{at}
 use Rattle.freeing.specs.Row.{Apart}
-use Rattle.record.specs.Meaning.{layoutsOf, relaid}
+use Rattle.format.specs.Meaning.{layoutsOf, relaid}
 use Rattle.standing.specs.Sides.{sideOf}
 use Rattle.standing.proofs.AsItStands.{rows-within, layout-within, part-layout, length-part, filled-good, filled-size, filled-tree}
 use Rattle.standing.proofs.Counts.{far-apart-side}

@@ -1,0 +1,58 @@
+// Whether links are one-to-one: each number from 1 to n stands among the n links.
+ghost use mathlib.Core.Path.{_≡_};
+ghost use mathlib.Core.List.{[]};
+ghost use Prim.Native.Nat.{_≤_};
+ghost use lib.ListN.{length, take};
+ghost use Rattle.contents.specs.Marks.{allMarked, marked, marking};
+ghost use Rattle.format.specs.Refusals.{oneToOne};
+
+// Marks x, if it is from 1 to 512.
+fn mark(marks: &mut [u8; 512], x: u16)
+    ensures { λ _. ⌜ now (marks .exit) ≡ marking (now (marks .entry)) x ⌝ }
+{
+    if x == 0 {
+        return;
+    }
+    if 512 < x {
+        return;
+    }
+    let k = x as usize - 1;
+    marks[k] = 1;
+}
+
+// Marks each of the first n links, where nothing was marked.
+fn mark_links(links: &[u16; 512], n: usize, marks: &mut [u8; 512])
+    requires { ⌜ (n ≤ 512) × (n ≤ length (now links)) × (now marks ≡ marked []) ⌝ }
+    ensures { λ _. ⌜ now (marks .exit) ≡ marked (take n (now (links .entry))) ⌝ }
+{
+    let mut i = 0;
+    while i < n {
+        mark(marks, links[i]);
+        i += 1;
+    }
+}
+
+// Whether 1 to n are marked.
+fn all_marked(marks: &[u8; 512], n: usize) -> bool
+    requires { ⌜ n ≤ 512 ⌝ }
+    ensures { λ r. ⌜ r ≡ allMarked (now (marks .entry)) n ⌝ }
+{
+    let mut i = 0;
+    while i < n {
+        if marks[i] == 0 {
+            return false;
+        }
+        i += 1;
+    }
+    true
+}
+
+// Whether the first n links are one-to-one on 1 to n.
+pub fn one_to_one(links: &[u16; 512], n: usize) -> bool
+    requires { ⌜ (n ≤ 512) × (n ≤ length (now links)) ⌝ }
+    ensures { λ r. ⌜ r ≡ oneToOne n (take n (now (links .entry))) ⌝ }
+{
+    let mut marks = [0u8; 512];
+    mark_links(links, n, &mut marks);
+    all_marked(&marks, n)
+}

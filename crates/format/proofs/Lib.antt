@@ -1,0 +1,7 @@
+pub mod Stores
+pub mod Tables
+pub mod Tests
+pub mod Heading
+pub mod Contents
+pub mod Acceptance
+pub mod Meaning

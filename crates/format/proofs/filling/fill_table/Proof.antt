@@ -1,0 +1,26 @@
+-- `fill_table`: the rows are read pair by pair into the table, and n last.
+use mathlib.Core.Path.{ap}
+use lib.ListN.{set}
+use borrow.Author.Needs.{needs}
+use Rattle.format.proofs.filling.fill_table.Statement.{statement}
+use Rattle.format.proofs.filling.fill_table.Tie as tie
+
+sub-numbers-out : tie.Need-sub-numbers-out
+sub-numbers-out c = search needs
+
+mul-numbers-out : tie.Need-mul-numbers-out
+mul-numbers-out c = search needs
+
+numbers-out-requires : tie.Need-numbers-out-requires
+numbers-out-requires c κs = search needs
+
+element-write-tab : tie.Need-element-write-tab
+element-write-tab c = search needs
+
+returns : tie.Need-returns
+returns c = ap (λ t. set t 1022 (c .before .before .before .args .n)) (c .numbers-out .ensures)
+
+pub fill-table-spec : {M : Type 1} → statement M
+fill-table-spec =
+    tie.close
+    (tie.spec sub-numbers-out mul-numbers-out numbers-out-requires element-write-tab returns)

@@ -1,0 +1,84 @@
+-- The refusals 1 to 10, as document 01's table has them. 0 is no refusal.
+use Prim.Native.Nat.{ℕ, zero, suc}
+use mathlib.Core.Bool.{Bool, true, cond, not, _&&_, _||_}
+use mathlib.Core.List.{List, [], _∷_}
+use lib.Dec.{eqb, leb, ltb}
+use lib.ListN.{length, getD}
+use Rattle.tanglegram.specs.Lists.{range}
+use Rattle.trees.specs.Rows.{upper, lower}
+use Rattle.tree_rule.specs.Rule.{among, badRow}
+use Rattle.format.specs.Fields.{two, holdOf, sizeOf, lengthOf, Parts, parts}
+
+-- The number k if the test holds, else what comes after it; the first of two refusals.
+infixr 10 _when_else_
+abbrev pub _when_else_ : ℕ → Bool → ℕ → ℕ
+k when b else r = cond b k r
+
+abbrev pub orElse : ℕ → ℕ → ℕ
+orElse zero r = r
+orElse (suc k) r = suc k
+
+-- Each entry passes a test.
+unfoldable pub all : (ℕ → Bool) → List ℕ → Bool
+all p [] = true
+all p (x ∷ xs) = p x && all p xs
+
+-- Bytes 0 to 2 are `TGP`.
+unfoldable pub isMark : List ℕ → Bool
+isMark s = eqb (getD s 0 0) 84 && (eqb (getD s 1 0) 71 && eqb (getD s 2 0) 80)
+
+-- One of the four letters `N`, `L`, `R`, `B`.
+unfoldable pub isHold : ℕ → Bool
+isHold x = eqb x 78 || (eqb x 76 || (eqb x 82 || eqb x 66))
+
+-- n is 0 or above 512.
+unfoldable pub noSize : ℕ → Bool
+noSize n = eqb n 0 || ltb 512 n
+
+-- A row breaks the tree rule.
+unfoldable pub breaksRule : ℕ → List ℕ → Bool
+unfolding badRow
+breaksRule n rows = not (eqb (badRow n (upper rows) (lower rows)) 0)
+
+-- n links take each value from 1 to n.
+unfoldable pub oneToOne : ℕ → List ℕ → Bool
+unfolding all among
+oneToOne n links = all (λ c. among c links) (range 1 n)
+
+-- Each byte is 0 or 1.
+unfoldable pub isLayout : List ℕ → Bool
+unfolding all
+isLayout bytes = all (λ x. leb x 1) bytes
+
+-- The content of the parts.
+unfoldable pub contents : Parts → ℕ
+unfolding breaksRule oneToOne isLayout
+contents P =
+    7 when breaksRule (P .size) (P .left-rows)
+    else 8 when breaksRule (P .size) (P .right-rows)
+    else 9 when not (oneToOne (P .size) (P .links))
+    else 10 when not (isLayout (P .left-layout))
+    else 10 when not (isLayout (P .right-layout))
+    else 0
+
+-- The first eight bytes and the length.
+unfoldable pub heading : List ℕ → ℕ
+unfolding isMark isHold noSize
+heading s =
+    1 when ltb (length s) 8
+    else 2 when not (isMark s)
+    else 3 when not (eqb (two s 3) 1)
+    else 4 when not (isHold (holdOf s))
+    else 5 when noSize (sizeOf s)
+    else 6 when not (eqb (length s) (lengthOf (sizeOf s)))
+    else 0
+
+-- A record's refusal.
+unfoldable pub refusal : List ℕ → ℕ
+unfolding heading contents
+refusal s = orElse (heading s) (contents (parts s))
+
+-- Setting the hold's: the letter is tested before the record.
+unfoldable pub holding : List ℕ → ℕ → ℕ
+unfolding refusal isHold
+holding s letter = 4 when not (isHold letter) else refusal s

@@ -1,0 +1,147 @@
+// Unpacking: a record's parts, into five buffers.
+ghost use mathlib.Core.Path.{_≡_};
+ghost use Prim.Native.Nat.{_≤_, _*_, _-_};
+ghost use lib.ListN.{length};
+ghost use lib.Seq.{sets};
+ghost use Rattle.unpacking.specs.Calls.{unpackedNone, Unpacks};
+ghost use Rattle.unpacking.specs.Refusals.{room};
+ghost use Rattle.format.specs.Fields.{partsOf, Sized};
+use format::copying::bytes_in;
+use format::copying::number;
+use format::copying::numbers_out;
+use record::reading::refusal_number;
+use format::refusal::ROOM;
+use format::refusal::Refusal;
+
+// What unpacking answers beside the buffers; hold and n are 0 where it refuses.
+pub struct Unpacked {
+    pub refusal: Refusal,
+    pub hold: u8,
+    pub n: u16,
+}
+
+// What a refused unpacking answers.
+fn refused(k: u16) -> Unpacked
+    ensures { λ r. ⌜ r ≡ unpackedNone k ⌝ }
+{
+    Unpacked {
+        refusal: Refusal { number: k },
+        hold: 0,
+        n: 0,
+    }
+}
+
+// 14 where a buffer of that many places is too short for its part of a record over n leaves, or 0.
+fn room_number(
+    n: u16,
+    left: usize,
+    right: usize,
+    links: usize,
+    leftlayout: usize,
+    rightlayout: usize,
+) -> u16
+    requires { ⌜ 1 ≤ n ⌝ }
+    ensures { λ r. ⌜ r ≡ room n left right links leftlayout rightlayout ⌝ }
+{
+    let m = n as usize - 1;
+    if left < 2 * m {
+        return ROOM;
+    }
+    if right < 2 * m {
+        return ROOM;
+    }
+    if links < n as usize {
+        return ROOM;
+    }
+    if leftlayout < m {
+        return ROOM;
+    }
+    if rightlayout < m {
+        return ROOM;
+    }
+    0
+}
+
+// Writes the parts of a record over n leaves to the buffers' first places.
+fn write_parts(
+    s: &[u8],
+    n: u16,
+    left: &mut [u16],
+    right: &mut [u16],
+    links: &mut [u16],
+    leftlayout: &mut [u8],
+    rightlayout: &mut [u8],
+)
+    requires { ⌜ Sized (now s) n ⌝ }
+    requires { ⌜ (2 * (n - 1) ≤ length (now left)) × (2 * (n - 1) ≤ length (now right)) × (n ≤ length (now links)) ⌝ }
+    requires { ⌜ (n - 1 ≤ length (now leftlayout)) × (n - 1 ≤ length (now rightlayout)) ⌝ }
+    ensures { λ _. ⌜ now (left .exit) ≡ sets (now (left .entry)) 0 (partsOf (now (s .entry)) n .left-rows) ⌝ }
+    ensures { λ _. ⌜ now (right .exit) ≡ sets (now (right .entry)) 0 (partsOf (now (s .entry)) n .right-rows) ⌝ }
+    ensures { λ _. ⌜ now (links .exit) ≡ sets (now (links .entry)) 0 (partsOf (now (s .entry)) n .links) ⌝ }
+    ensures { λ _. ⌜
+        now (leftlayout .exit) ≡ sets (now (leftlayout .entry)) 0 (partsOf (now (s .entry)) n .left-layout)
+        ⌝ }
+    ensures { λ _. ⌜
+        now (rightlayout .exit) ≡ sets (now (rightlayout .entry)) 0 (partsOf (now (s .entry)) n .right-layout)
+        ⌝ }
+{
+    let k = n as usize;
+    let m = k - 1;
+    let at = 8 + 8 * m + 2 * k;
+    let last = at + m;
+    numbers_out(s, 8, 2 * m, left);
+    numbers_out(s, 8 + 4 * m, 2 * m, right);
+    numbers_out(s, 8 + 8 * m, k, links);
+    bytes_in(&s[at..last], leftlayout, 0);
+    bytes_in(&s[last..], rightlayout, 0);
+}
+
+// Unpacks any bytes: writes the rows of each tree, the links and the layouts to the buffers' first places, if the
+// record is accepted and each buffer has the places; else it answers the refusal and writes nothing.
+pub fn unpack(
+    s: &[u8],
+    left: &mut [u16],
+    right: &mut [u16],
+    links: &mut [u16],
+    leftlayout: &mut [u8],
+    rightlayout: &mut [u8],
+) -> Unpacked
+    ensures { λ r. ⌜
+        Unpacks
+        (now (s .entry))
+        (now (left .entry))
+        (now (right .entry))
+        (now (links .entry))
+        (now (leftlayout .entry))
+        (now (rightlayout .entry))
+        r
+        (now (left .exit))
+        (now (right .exit))
+        (now (links .exit))
+        (now (leftlayout .exit))
+        (now (rightlayout .exit))
+        ⌝ }
+{
+    let k = refusal_number(s);
+    if k != 0 {
+        return refused(k);
+    }
+    let n = number(s, 6);
+    let room = room_number(
+        n,
+        left.len(),
+        right.len(),
+        links.len(),
+        leftlayout.len(),
+        rightlayout.len(),
+    );
+    if room != 0 {
+        return refused(room);
+    }
+    write_parts(s, n, left, right, links, leftlayout, rightlayout);
+    Unpacked {
+        refusal: Refusal { number: 0 },
+        hold: s[5],
+        n: n,
+    }
+}
