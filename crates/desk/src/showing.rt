@@ -8,8 +8,8 @@ use crate::parsing::list as list_in;
 use crate::parsing::number;
 use crate::words::part;
 use crate::words::word;
-use table::answers::Counted;
-use table::answers::Entangled;
+use views::answers::Counted;
+use views::answers::Entangled;
 
 // check RECORD -> NUMBER
 pub fn check(line: &[u8], s: &mut [u8]) {
@@ -40,7 +40,7 @@ pub fn order(line: &[u8], s: &mut [u8], xs: &mut [u16]) {
 }
 
 fn ordered(s: &[u8], side: u16, xs: &mut [u16]) {
-    let done = table::order(s, side, xs);
+    let done = views::order(s, side, xs);
     printing::entry(done.number);
     next_list(xs);
     printing::end();
@@ -61,9 +61,9 @@ pub fn count(line: &[u8], paired: bool, s: &mut [u8]) {
 
 fn counted(s: &[u8], paired: bool) -> Counted {
     if paired {
-        return table::pairs(s);
+        return views::pairs(s);
     }
-    table::count(s)
+    views::count(s)
 }
 
 // NUMBER 0 0 none
@@ -95,7 +95,7 @@ pub fn entanglement(line: &[u8], s: &mut [u8]) {
     if s.len() < n {
         return no_call();
     }
-    match table::entanglement(&s[..n]) {
+    match views::entanglement(&s[..n]) {
         Entangled::Ratio(d, w, x) => ratio(d, w, x),
         Entangled::NoRatio => no_ratio(0),
         Entangled::Refused(refusal) => no_ratio(refusal.number),

@@ -5,11 +5,11 @@ use lib.Ieee.{Float, binary64, ofBits}
 use lib.ListN.{getD}
 use Rattle.record.specs.Calls.{refused}
 use Rattle.unpacking.specs.declared.unpacking.Unpacked.{Unpacked}
-use Rattle.table.specs.declared.answers.Counted.{Counted}
+use Rattle.views.specs.declared.answers.Counted.{Counted}
 use Rattle.table.specs.declared.answers.Freed.{Freed}
 use Rattle.table.specs.declared.answers.Ran.{Ran}
-use Rattle.table.specs.declared.answers.Entangled.{Entangled}
-use Rattle.table.specs.declared.answers.Entangled.the-variants.{Ratio, NoRatio, Refused}
+use Rattle.views.specs.declared.answers.Entangled.{Entangled}
+use Rattle.views.specs.declared.answers.Entangled.the-variants.{Ratio, NoRatio, Refused}
 use Rattle.gauge_calls.specs.declared.showing.GaugeCount.{GaugeCount}
 use Rattle.gauge_calls.specs.declared.changing.GaugeFree.{GaugeFree}
 use Rattle.gauge_calls.specs.declared.changing.GaugeRun.{GaugeRun}

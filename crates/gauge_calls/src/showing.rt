@@ -2,8 +2,8 @@
 ghost use mathlib.Core.Path.{_≡_};
 ghost use Rattle.gauge_calls.specs.Gauged.{counted, ratioIn};
 ghost use Rattle.record.specs.Calls.{Checks, refused};
-ghost use Rattle.table.specs.Calls.{Counts, Orders, entangled};
-use table::answers::Entangled;
+ghost use Rattle.views.specs.Calls.{Counts, Orders, entangled};
+use views::answers::Entangled;
 
 // The refusal's number, or 0.
 #[no_mangle]
@@ -19,7 +19,7 @@ pub extern "C" fn gauge_check(s: &[u8]) -> u16
 pub extern "C" fn gauge_order_of(s: &[u8], side: u16, out: &mut [u16]) -> u16
     ensures { λ r. ⌜ Orders (now (s .entry)) side (now (out .entry)) (refused r) (now (out .exit)) ⌝ }
 {
-    let refusal = table::order(s, side, out);
+    let refusal = views::order(s, side, out);
     refusal.number
 }
 
@@ -34,7 +34,7 @@ pub struct GaugeCount {
 pub extern "C" fn gauge_count(s: &[u8]) -> GaugeCount
     ensures { λ r. ⌜ Counts (now (s .entry)) (counted r) ⌝ }
 {
-    let answer = table::count(s);
+    let answer = views::count(s);
     GaugeCount {
         number: answer.refusal.number as u32,
         count: answer.count,
@@ -45,7 +45,7 @@ pub extern "C" fn gauge_count(s: &[u8]) -> GaugeCount
 pub extern "C" fn gauge_pairs(s: &[u8]) -> GaugeCount
     ensures { λ r. ⌜ Counts (now (s .entry)) (counted r) ⌝ }
 {
-    let answer = table::pairs(s);
+    let answer = views::pairs(s);
     GaugeCount {
         number: answer.refusal.number as u32,
         count: answer.count,
@@ -57,7 +57,7 @@ pub extern "C" fn gauge_pairs(s: &[u8]) -> GaugeCount
 pub extern "C" fn gauge_entanglement(s: &[u8]) -> f64
     ensures { λ r. ⌜ r ≡ ratioIn (entangled (now (s .entry))) ⌝ }
 {
-    let answer = table::entanglement(s);
+    let answer = views::entanglement(s);
     match answer {
         Entangled::Ratio(d, w, ratio) => ratio,
         Entangled::NoRatio => 0.0,

@@ -12,7 +12,7 @@ use Rattle.format.specs.Fields.{numbers, split, partsOf, packed}
 use Rattle.format.specs.Refusals.{all, isMark, isHold, noSize, breaksRule, oneToOne, isLayout, contents, heading, refusal}
 use Rattle.standing.specs.Sides.{isSide, holds}
 use Rattle.table.specs.Refusals.{noAllowance, freeing, running}
-use Rattle.table.specs.Calls.{entangled}
+use Rattle.views.specs.Calls.{entangled}
 use Rattle.promises.specs.Bench.{Bench}
 
 pub bench : Bench

@@ -21,12 +21,14 @@ use Rattle.format.specs.Refusals.{refusal}
 use Rattle.format.specs.Meaning.{tableOf, layoutsOf, relaid}
 use Rattle.format.proofs.Meaning.{accepted-fair, accepted-fits}
 use Rattle.standing.specs.Sides.{sideOf}
-use Rattle.table.specs.Refusals.{ordering, freeing}
+use Rattle.views.specs.Refusals.{ordering}
+use Rattle.table.specs.Refusals.{freeing}
 use Rattle.standing.specs.Shown.{shownOrder, shownCount}
-use Rattle.table.specs.Calls.{freedLayouts, Orders, Frees}
+use Rattle.table.specs.Calls.{freedLayouts, Frees}
+use Rattle.views.specs.Calls.{Orders}
 use Rattle.table.specs.declared.answers.Freed.{Freed}
 use Rattle.standing.proofs.AsItStands.{given, side-perm}
-use Rattle.table.proofs.Outcomes.{ordering-good}
+use Rattle.views.proofs.Outcomes.{ordering-good}
 use Rattle.table.proofs.Freed.{freed-layouts}
 use Rattle.table.proofs.Turns.{freeing-good, freed-count}
 use Rattle.promises.specs.Demand2 as Demand2

@@ -3,12 +3,13 @@ use mathlib.Core.Path.{_≡_, refl, ap, _∙_}
 use mathlib.Core.Logic.{_≢_}
 use borrow.Author.Tests.{ne-eqb}
 use Rattle.format.specs.Refusals.{refusal}
-use Rattle.table.specs.declared.answers.Entangled.{Entangled}
-use Rattle.table.specs.declared.answers.Entangled.the-variants.{Ratio, NoRatio, Refused}
-use Rattle.table.specs.Refusals.{ordering, freeing, running}
+use Rattle.views.specs.declared.answers.Entangled.{Entangled}
+use Rattle.views.specs.declared.answers.Entangled.the-variants.{Ratio, NoRatio, Refused}
+use Rattle.views.specs.Refusals.{ordering}
+use Rattle.table.specs.Refusals.{freeing, running}
 use Rattle.hands.specs.Refusals.{handing}
 use Rattle.proposals.specs.Refusals.{comparing}
-use Rattle.table.specs.Calls.{entangled, numberOf, displacedIn, worstIn}
+use Rattle.views.specs.Calls.{entangled, numberOf, displacedIn, worstIn}
 use Rattle.proposals.specs.Calls.{betterPart}
 use Rattle.promises.specs.TableRefused.{TableRefused}
 

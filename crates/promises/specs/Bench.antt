@@ -13,7 +13,8 @@ use Rattle.format.specs.Refusals.{refusal}
 use Rattle.format.specs.Meaning.{tableOf}
 use Rattle.table.specs.Refusals.{freeing, running}
 use Rattle.standing.specs.Shown.{shownOrder, shownCount}
-use Rattle.table.specs.Calls.{entangled, displacedIn, worstIn, freedLayouts, ranTo}
+use Rattle.views.specs.Calls.{entangled, displacedIn, worstIn}
+use Rattle.table.specs.Calls.{freedLayouts, ranTo}
 
 -- A line's record: hold `N`.
 abbrev pub recordOf : Given → List ℕ

@@ -14,11 +14,12 @@ use Rattle.tanglegram.specs.Table.{layout, put, seen, crossings}
 use Rattle.format.specs.declared.refusal.Refusal.{Refusal}
 use Rattle.format.specs.Fields.{sizeOf, parts}
 use Rattle.format.specs.Meaning.{tableOf, layoutsOf}
-use Rattle.table.specs.declared.answers.Counted.{Counted}
+use Rattle.views.specs.declared.answers.Counted.{Counted}
 use Rattle.table.specs.declared.answers.Freed.{Freed}
 use Rattle.standing.specs.Sides.{sideOf}
 use Rattle.standing.specs.Shown.{shownOrder, shownCount}
-use Rattle.table.specs.Calls.{Orders, Counts, Frees}
+use Rattle.views.specs.Calls.{Orders, Counts}
+use Rattle.table.specs.Calls.{Frees}
 
 pub record Demand2 : Type 0 where
   -- An order is the one that the side's layout gives, and compatible with its tree.

@@ -3,7 +3,7 @@
 // `REFUSED 11`.
 use record::reading::Header;
 use record::reading::Reading;
-use table::answers::Entangled;
+use views::answers::Entangled;
 use table::answers::Ran;
 
 // The largest allowance of a run.
@@ -42,9 +42,9 @@ fn orders(s: &[u8], n: u16) {
         return;
     }
     let mut order = [0u16; 512];
-    table::order(s, 1, &mut order);
+    views::order(s, 1, &mut order);
     entries(b'L', &order[..most]);
-    table::order(s, 2, &mut order);
+    views::order(s, 2, &mut order);
     entries(b'R', &order[..most]);
 }
 
@@ -58,11 +58,11 @@ fn displaced(d: u32, w: u32) {
 
 // The count, D and W. A single leaf has no ratio, and D and W are 0.
 fn measures(s: &[u8]) {
-    let counted = table::count(s);
+    let counted = views::count(s);
     printing::text(b"X");
     printing::next(counted.count);
     printing::end();
-    let entangled = table::entanglement(s);
+    let entangled = views::entanglement(s);
     let Entangled::Ratio(d, w, _ratio) = entangled else {
         return displaced(0, 0);
     };

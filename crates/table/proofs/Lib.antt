@@ -1,4 +1,3 @@
-pub mod Outcomes
 pub mod Freed
 pub mod Turns
 pub mod Alternating

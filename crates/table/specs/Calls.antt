@@ -1,74 +1,19 @@
--- What each call answers, and what it leaves in what was lent to it, for every input.
+-- What free and run answer, and what they leave in the record that was lent to them, for every input.
 use Prim.Native.Nat.{ℕ, _-_}
 use mathlib.Core.Path.{_≡_}
-use mathlib.Core.Bool.{Bool, true, false, cond}
+use mathlib.Core.Bool.{cond}
 use mathlib.Core.List.{List}
-use lib.Dec.{eqb}
-use lib.Ieee.{Float, binary64, div, ofInt}
-use lib.IntN.{pos}
 use Rattle.tanglegram.specs.Lists.{bit}
 use Rattle.tanglegram.specs.Crossings.{count}
-use Rattle.tanglegram.specs.Entanglement.{worst}
 use Rattle.tanglegram.specs.Run.{right, End, more, go, run}
 use Rattle.tanglegram.specs.Table.{Layouts, crossings, free}
-use Rattle.format.specs.declared.refusal.Refusal.{Refusal}
-use Rattle.format.specs.Fields.{sizeOf}
-use Rattle.format.specs.Refusals.{refusal}
-use Rattle.record.specs.Calls.{refused, accepted, lent, orZero}
+use Rattle.record.specs.Calls.{refused, accepted, orZero}
 use Rattle.format.specs.Meaning.{tableOf, layoutsOf, relaid}
-use Rattle.table.specs.declared.answers.Counted.{Counted}
+use Rattle.standing.specs.Sides.{sideOf}
+use Rattle.standing.specs.Shown.{shownCount}
 use Rattle.table.specs.declared.answers.Freed.{Freed}
 use Rattle.table.specs.declared.answers.Ran.{Ran}
-use Rattle.table.specs.declared.answers.Entangled.{Entangled}
-use Rattle.table.specs.declared.answers.Entangled.the-variants.{Ratio, NoRatio, Refused}
-use Rattle.standing.specs.Sides.{sideOf}
-use Rattle.table.specs.Refusals.{ordering, freeing, running}
-use Rattle.standing.specs.Shown.{shownOrder, shownCount, shownDisplacement}
-
--- ---- order, count, pairs
-
-pub record Orders (s : List ℕ) (side : ℕ) (out : List ℕ) (answer : Refusal) (out′ : List ℕ) : Type 0 where
-  pub answers : answer ≡ refused (ordering s side out)
-  pub leaves : out′ ≡ lent (ordering s side out) (shownOrder s (sideOf side)) out
-
-pub record Counts (s : List ℕ) (answer : Counted) : Type 0 where
-  pub answers : answer ≡ record { refusal = refused (refusal s); count = orZero (refusal s) (shownCount s) }
-
--- ---- entanglement
-
-unfoldable pub ratio : ℕ → ℕ → Float
-ratio d w = div binary64 (ofInt binary64 (pos d)) (ofInt binary64 (pos w))
-
-abbrev pub either : Bool → Entangled → Entangled → Entangled
-either true a b = a
-either false a b = b
-
-unfoldable pub entangled : List ℕ → Entangled
-unfolding refusal ratio
-entangled s =
-    either (accepted (refusal s))
-    (either (eqb (sizeOf s) 1) NoRatio
-    (Ratio (shownDisplacement s) (worst (sizeOf s)) (ratio (shownDisplacement s) (worst (sizeOf s)))))
-    (Refused (refused (refusal s)))
-
--- Document 01's number, D and W for each case.
-abbrev pub numberOf : Entangled → ℕ
-numberOf (Ratio d w x) = 0
-numberOf NoRatio = 0
-numberOf (Refused r) = r .number
-
-abbrev pub displacedIn : Entangled → ℕ
-displacedIn (Ratio d w x) = d
-displacedIn NoRatio = 0
-displacedIn (Refused r) = 0
-
-abbrev pub worstIn : Entangled → ℕ
-worstIn (Ratio d w x) = w
-worstIn NoRatio = 0
-worstIn (Refused r) = 0
-
-pub record Entangles (s : List ℕ) (answer : Entangled) : Type 0 where
-  pub answers : answer ≡ entangled s
+use Rattle.table.specs.Refusals.{freeing, running}
 
 -- ---- free
 

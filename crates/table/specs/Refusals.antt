@@ -1,21 +1,12 @@
--- The refusals of the calls that show and turn, in document 01's order: 12, then 13, then 1 to 10, 11, 14.
-use Prim.Native.Nat.{ℕ, _-_}
+-- The refusals of free and run, in document 01's order: 12, then 13, then 1 to 10, 11.
+use Prim.Native.Nat.{ℕ}
 use mathlib.Core.Bool.{Bool, not, _||_}
 use mathlib.Core.List.{List}
 use lib.Dec.{eqb, ltb}
-use lib.ListN.{length}
-use Rattle.tanglegram.specs.Order.{order}
 use Rattle.tanglegram.specs.Run.{left, right}
-use Rattle.format.specs.Fields.{holdOf, sizeOf}
+use Rattle.format.specs.Fields.{holdOf}
 use Rattle.format.specs.Refusals.{_when_else_, orElse, refusal}
 use Rattle.standing.specs.Sides.{isSide, sideOf, holds}
-
--- The order of a side, into a buffer.
-unfoldable pub ordering : List ℕ → ℕ → List ℕ → ℕ
-unfolding isSide refusal
-ordering s side out =
-    13 when not (isSide side)
-    else orElse (refusal s) (14 when ltb (length out) (sizeOf s) else 0)
 
 -- Freeing a side.
 unfoldable pub freeing : List ℕ → ℕ → ℕ

@@ -7,12 +7,13 @@ use mathlib.Core.List.{List}
 use lib.IntN.{pos}
 use lib.Ieee.{fin}
 use Rattle.format.specs.declared.refusal.Refusal.{Refusal}
-use Rattle.table.specs.declared.answers.Counted.{Counted}
+use Rattle.views.specs.declared.answers.Counted.{Counted}
 use Rattle.table.specs.declared.answers.Freed.{Freed}
 use Rattle.table.specs.declared.answers.Ran.{Ran}
-use Rattle.table.specs.declared.answers.Entangled.{Entangled}
-use Rattle.table.specs.declared.answers.Entangled.the-variants.{Ratio, NoRatio, Refused}
-use Rattle.table.specs.Calls.{Counts, Entangles, Frees, Runs}
+use Rattle.views.specs.declared.answers.Entangled.{Entangled}
+use Rattle.views.specs.declared.answers.Entangled.the-variants.{Ratio, NoRatio, Refused}
+use Rattle.views.specs.Calls.{Counts, Entangles}
+use Rattle.table.specs.Calls.{Frees, Runs}
 use Rattle.hands.specs.Refusals.{Hand}
 use Rattle.hands.specs.Calls.{Hands}
 use Rattle.viewer.specs.declared.TangleCount.{TangleCount}

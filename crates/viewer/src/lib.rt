@@ -6,7 +6,7 @@ ghost use mathlib.Core.Path.{_≡_};
 ghost use Rattle.hands.specs.Entries.{handIn};
 ghost use Rattle.viewer.specs.ForC.{CountsForC, EntanglesForC, FreesForC, HandsForC, noRatio, RunsForC};
 use hands::hand_entries::HandEntry;
-use table::answers::Entangled;
+use views::answers::Entangled;
 
 // The refusal, and the count.
 #[repr(C)]
@@ -20,7 +20,7 @@ pub struct TangleCount {
 pub extern "C" fn tangle_count(s: &[u8]) -> TangleCount
     ensures { λ r. ⌜ CountsForC (now (s .entry)) r ⌝ }
 {
-    let counted = table::count(s);
+    let counted = views::count(s);
     TangleCount {
         refusal: counted.refusal.number as u32,
         count: counted.count,
@@ -88,7 +88,7 @@ pub struct TangleEntanglement {
 pub extern "C" fn tangle_entanglement(s: &[u8]) -> TangleEntanglement
     ensures { λ r. ⌜ EntanglesForC (now (s .entry)) r ⌝ }
 {
-    let entangled = table::entanglement(s);
+    let entangled = views::entanglement(s);
     match entangled {
         Entangled::Ratio(d, w, ratio) => TangleEntanglement {
             refusal: 0,

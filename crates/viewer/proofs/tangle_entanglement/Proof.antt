@@ -3,8 +3,8 @@ use mathlib.Core.Path.{_≡_, refl, sym, ap, _∙_}
 use mathlib.Core.List.{List}
 use Prim.Native.Nat.{ℕ}
 use borrow.Author.Needs.{needs}
-use Rattle.table.specs.declared.answers.Entangled.{Entangled}
-use Rattle.table.specs.Calls.{Entangles}
+use Rattle.views.specs.declared.answers.Entangled.{Entangled}
+use Rattle.views.specs.Calls.{Entangles}
 use Rattle.viewer.specs.declared.TangleEntanglement.{TangleEntanglement}
 use Rattle.viewer.specs.ForC.{entanglementForC, EntanglesForC}
 use Rattle.viewer.proofs.tangle_entanglement.Statement.{statement}

@@ -1,11 +1,11 @@
 -- `entanglement`: a refusal, a single leaf, and the ratio of two numbers below 2 to the 53.
 use mathlib.Core.Path.{sym, _∙_}
-use Rattle.table.specs.Calls.{ratio}
+use Rattle.views.specs.Calls.{ratio}
 use Rattle.standing.proofs.AsItStands.{long-enough, given-size}
-use Rattle.table.proofs.Outcomes.{entangled-refused, entangled-none, entangled-ratio}
+use Rattle.views.proofs.Outcomes.{entangled-refused, entangled-none, entangled-ratio}
 use borrow.Author.Needs.{needs}
-use Rattle.table.proofs.showing.entanglement.Statement.{statement}
-use Rattle.table.proofs.showing.entanglement.Tie as tie
+use Rattle.views.proofs.showing.entanglement.Statement.{statement}
+use Rattle.views.proofs.showing.entanglement.Tie as tie
 
 refusal-number-requires : tie.Need-refusal-number-requires
 refusal-number-requires c κs = search needs

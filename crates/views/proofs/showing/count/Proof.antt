@@ -1,10 +1,10 @@
--- `pairs`: a refused record answers 0; an accepted one is counted pair by pair.
+-- `count`: a refused record answers 0; an accepted one is counted by seen places.
 use mathlib.Core.Path.{sym, _∙_}
 use Rattle.standing.proofs.AsItStands.{long-enough, given-size}
-use Rattle.table.proofs.Outcomes.{count-refused, count-accepted}
+use Rattle.views.proofs.Outcomes.{count-refused, count-accepted}
 use borrow.Author.Needs.{needs}
-use Rattle.table.proofs.showing.pairs.Statement.{statement}
-use Rattle.table.proofs.showing.pairs.Tie as tie
+use Rattle.views.proofs.showing.count.Statement.{statement}
+use Rattle.views.proofs.showing.count.Tie as tie
 
 refusal-number-requires : tie.Need-refusal-number-requires
 refusal-number-requires c κs = search needs
@@ -15,17 +15,17 @@ returns c = count-refused _ (c .before .refusal-number .ensures) (c .if1 .taken)
 size-of-requires : tie.Need-size-of-requires
 size-of-requires c κs = long-enough _ (sym (c .before .refusal-number .ensures) ∙ c .if1 .left)
 
-crossings-paired-requires : tie.Need-crossings-paired-requires
-crossings-paired-requires c κs =
+crossings-seen-requires : tie.Need-crossings-seen-requires
+crossings-seen-requires c κs =
     let p = c .before in
     given-size _ (sym (p .before .refusal-number .ensures) ∙ p .if1 .left) (c .size-of .ensures)
 
 returns-2 : tie.Need-returns-2
 returns-2 c =
     let p = c .before .before in
-    count-accepted _ (sym (p .before .refusal-number .ensures) ∙ p .if1 .left) (c .crossings-paired .ensures)
+    count-accepted _ (sym (p .before .refusal-number .ensures) ∙ p .if1 .left) (c .crossings-seen .ensures)
 
-pub pairs-spec : {M : Type 1} → statement M
-pairs-spec =
+pub count-spec : {M : Type 1} → statement M
+count-spec =
     tie.close
-    (tie.spec refusal-number-requires returns size-of-requires crossings-paired-requires returns-2)
+    (tie.spec refusal-number-requires returns size-of-requires crossings-seen-requires returns-2)

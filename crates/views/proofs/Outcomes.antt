@@ -19,11 +19,11 @@ use Rattle.format.proofs.Acceptance.{else-first, none-both}
 use Rattle.format.proofs.Heading.{none-first, not-no}
 use Rattle.record.proofs.Outcomes.{lent-refused, lent-accepted}
 use Rattle.format.proofs.Stores.{sets-front}
-use Rattle.table.specs.declared.answers.Entangled.the-variants.{Ratio, NoRatio, Refused}
+use Rattle.views.specs.declared.answers.Entangled.the-variants.{Ratio, NoRatio, Refused}
 use Rattle.standing.specs.Sides.{isSide, sideOf}
-use Rattle.table.specs.Refusals.{ordering}
+use Rattle.views.specs.Refusals.{ordering}
 use Rattle.standing.specs.Shown.{shownOrder, shownCount}
-use Rattle.table.specs.Calls.{Orders, Counts, ratio, entangled, Entangles}
+use Rattle.views.specs.Calls.{Orders, Counts, ratio, entangled, Entangles}
 use Rattle.standing.proofs.AsItStands.{side-perm, given-size}
 use Rattle.standing.proofs.FarEnds.{order-taken}
 

@@ -2,10 +2,10 @@
 use mathlib.Core.Path.{sym, _∙_}
 use borrow.Author.Tests.{not-true, not-false}
 use Rattle.standing.proofs.AsItStands.{long-enough}
-use Rattle.table.proofs.Outcomes.{ordering-13, ordering-record, ordering-14, ordering-0}
+use Rattle.views.proofs.Outcomes.{ordering-13, ordering-record, ordering-14, ordering-0}
 use borrow.Author.Needs.{needs}
-use Rattle.table.proofs.showing.ordering_number.Statement.{statement}
-use Rattle.table.proofs.showing.ordering_number.Tie as tie
+use Rattle.views.proofs.showing.ordering_number.Statement.{statement}
+use Rattle.views.proofs.showing.ordering_number.Tie as tie
 
 is-side-requires : tie.Need-is-side-requires
 is-side-requires c κs = search needs

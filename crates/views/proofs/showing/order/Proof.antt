@@ -4,10 +4,10 @@ use native.Mathlib.Omega.{arith}
 use Rattle.standing.specs.Sides.{sideOf}
 use Rattle.standing.proofs.FarEnds.{order-long}
 use Rattle.standing.proofs.AsItStands.{long-enough, given-size}
-use Rattle.table.proofs.Outcomes.{ordering-good, order-refused, order-accepted}
+use Rattle.views.proofs.Outcomes.{ordering-good, order-refused, order-accepted}
 use borrow.Author.Needs.{needs}
-use Rattle.table.proofs.showing.order.Statement.{statement}
-use Rattle.table.proofs.showing.order.Tie as tie
+use Rattle.views.proofs.showing.order.Statement.{statement}
+use Rattle.views.proofs.showing.order.Tie as tie
 
 ordering-number-requires : tie.Need-ordering-number-requires
 ordering-number-requires c κs = search needs

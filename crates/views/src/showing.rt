@@ -1,7 +1,7 @@
 // The calls that only show: a side's order, the count by seen places and pair by pair, the entanglement.
 ghost use mathlib.Core.Path.{_≡_};
-ghost use Rattle.table.specs.Calls.{Counts, Entangles, Orders};
-ghost use Rattle.table.specs.Refusals.{ordering};
+ghost use Rattle.views.specs.Calls.{Counts, Entangles, Orders};
+ghost use Rattle.views.specs.Refusals.{ordering};
 use crate::answers::Counted;
 use crate::answers::Entangled;
 use format::refusal::ROOM;
