@@ -2,7 +2,7 @@
 -- hold, trees and links, and is accepted again if the layouts' bytes are good.
 use Prim.Native.Nat.{ℕ, _+_, _-_, _*_, _≤_, _<_}
 use mathlib.Core.Path.{_≡_, refl, sym, ap, _∙_}
-use mathlib.Core.Bool.{true, false, not}
+use mathlib.Core.Bool.{true, false}
 use mathlib.Core.List.{List, _++_, List·Permᴰ}
 use native.Mathlib.Omega.{arith}
 use borrow.Author.Tests.{eqb-true, not-false}
@@ -16,7 +16,8 @@ use Rattle.tanglegram.proofs.Lists.{map-ext, range-each}
 use Rattle.tanglegram.proofs.Table.{Fair, Fits, rule-fair, rule-fits, rule-rows}
 use Rattle.trees.specs.Rows.{upper, lower}
 use Rattle.tree_rule.proofs.Rule.{bad-row-none}
-use Rattle.format.specs.Fields.{two, numbers, bytes, holdOf, sizeOf, rightAt, linksAt, leftLayoutAt, rightLayoutAt, lengthOf, parts, partsOf, Sized}
+use Rattle.format.specs.Fields.{two, numbers, bytes, holdOf, sizeOf, rightAt, linksAt, leftLayoutAt, rightLayoutAt, lengthOf, parts}
+use Rattle.format.specs.Fields.{partsOf, Sized}
 use Rattle.format.specs.Refusals.{isMark, isHold, noSize, breaksRule, isLayout, heading, contents, refusal}
 use Rattle.format.specs.Meaning.{tableIn, layoutsIn, tableOf, layoutsOf, relaidIn, relaid}
 use Rattle.format.proofs.Heading.{heading-0, unsized}

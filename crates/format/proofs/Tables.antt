@@ -1,12 +1,10 @@
 -- A table filled with a list of rows: its rows are the list's, so that it is good or bad as they are.
-use Prim.Native.Nat.{ℕ, zero, suc, pred, _+_, _-_, _*_, _≤_, _<_}
+use Prim.Native.Nat.{ℕ, pred, _+_, _-_, _*_, _≤_, _<_}
 use mathlib.Core.Path.{_≡_, sym, ap, _∙_, subst}
-use mathlib.Core.Bool.{cond}
-use mathlib.Core.List.{List, _∷_}
+use mathlib.Core.List.{List}
 use native.Mathlib.Omega.{arith}
 use lib.ListN.{length, getD, set, take, drop, List·getD-append}
 use lib.Seq.{sets, sets-eq, length-sets, getD-set-same, getD-set-other, take-append-seam}
-use Rattle.tanglegram.specs.Lists.{range}
 use Rattle.tanglegram.specs.Tree.{tree, Rule}
 use Rattle.trees.specs.Rows.{upper, lower, size, treeOf, Good}
 use Rattle.tree_rule.specs.Rule.{badRow}

@@ -1,7 +1,7 @@
 // Numbers and bytes copied between a record and lists. A number of two bytes has its high byte first.
 ghost use mathlib.Core.Path.{_≡_};
 ghost use Prim.Native.Nat.{_+_, _*_, _≤_, _<_};
-ghost use lib.ListN.{length, take, drop};
+ghost use lib.ListN.{length};
 ghost use lib.Seq.{sets};
 ghost use Rattle.format.specs.Fields.{two, numbers, split};
 

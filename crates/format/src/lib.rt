@@ -1,5 +1,5 @@
-// The record's format: the bytes that are the device's whole state, the hold mark among them. What each refusal's number
-// is, where each part lies, and the copies of parts into arrays and back.
+// The record's format: the bytes that are the device's whole state, the hold mark among them. What number each refusal
+// has, where each part lies, and the copies of parts into arrays and back.
 pub mod copying;
 mod filling;
 pub mod refusal;

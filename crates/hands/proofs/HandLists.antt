@@ -11,7 +11,6 @@ use borrow.Author.Tests.{eq-eqb, ne-eqb, lt-ltb, le-ltb, eqb-false, ltb-false}
 use lib.Dec.{eqb, ltb}
 use lib.ListN.{length, getD, drop, length-map, drop-of-length-le}
 use lib.Seq.{drop-cons}
-use Rattle.tanglegram.specs.Run.{left}
 use Rattle.format.specs.Fields.{holdOf, sizeOf}
 use Rattle.format.specs.Refusals.{orElse, refusal}
 use Rattle.record.specs.Calls.{refused}

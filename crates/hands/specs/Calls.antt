@@ -1,12 +1,12 @@
 -- What a hand list answers, and what it leaves in the lent record, for every input.
-use Prim.Native.Nat.{ℕ, _-_}
+use Prim.Native.Nat.{ℕ}
 use mathlib.Core.Path.{_≡_}
 use mathlib.Core.Bool.{cond}
 use mathlib.Core.List.{List, [], _∷_}
 use Rattle.tanglegram.specs.Order.{turnRow}
 use Rattle.tanglegram.specs.Table.{Layouts, layout, put}
 use Rattle.format.specs.declared.refusal.Refusal.{Refusal}
-use Rattle.record.specs.Calls.{refused, accepted, lent}
+use Rattle.record.specs.Calls.{refused, accepted}
 use Rattle.format.specs.Meaning.{layoutsOf, relaid}
 use Rattle.standing.specs.Sides.{sideOf}
 use Rattle.hands.specs.Refusals.{Hand, handing}

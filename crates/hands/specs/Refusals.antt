@@ -4,7 +4,6 @@ use mathlib.Core.Bool.{not, _||_}
 use mathlib.Core.List.{List, [], _∷_}
 use lib.Dec.{eqb, ltb}
 use lib.ListN.{length}
-use Rattle.tanglegram.specs.Order.{order}
 use Rattle.format.specs.Fields.{holdOf, sizeOf}
 use Rattle.format.specs.Refusals.{_when_else_, orElse, refusal}
 use Rattle.standing.specs.Sides.{isSide, sideOf, holds}

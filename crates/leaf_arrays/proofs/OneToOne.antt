@@ -8,7 +8,8 @@ use native.Mathlib.Omega.{arith}
 use lib.ListN.{length, getD}
 use Rattle.tanglegram.specs.Lists.{Each, Distinct, place, range}
 use Rattle.tanglegram.specs.Crossings.{to, back}
-use Rattle.tanglegram.proofs.Lists.{each-mem, each-perm, distinct-perm, length-perm, range-each, range-distinct, length-range, mem-range, mem-at, mem-perm, at-place, place-at, place-below}
+use Rattle.tanglegram.proofs.Lists.{each-mem, each-perm, distinct-perm, length-perm, range-each, range-distinct, length-range, mem-range}
+use Rattle.tanglegram.proofs.Lists.{mem-at, mem-perm, at-place, place-at, place-below}
 use Rattle.leaf_arrays.specs.Arrays.{Leaf}
 
 pub range-leaves : (n : ℕ) → Each (Leaf n) (range 1 n)

@@ -1,10 +1,10 @@
 // Compatible orders: the layout read off an order, and whether an order is compatible with a tree.
 ghost use mathlib.Core.Path.{_≡_};
 ghost use mathlib.Core.Bool.{true, false};
-ghost use Prim.Native.Nat.{ℕ, _+_, _≤_};
+ghost use Prim.Native.Nat.{_+_, _≤_};
 ghost use lib.Dec.{ltb};
-ghost use lib.ListN.{length, getD, take, replicate};
-ghost use Rattle.tanglegram.specs.Lists.{place, bit};
+ghost use lib.ListN.{length, take};
+ghost use Rattle.tanglegram.specs.Lists.{bit};
 ghost use Rattle.tanglegram.specs.Order.{reading};
 ghost use Rattle.trees.specs.Rows.{Good, size, treeOf};
 ghost use Rattle.matching.specs.Match.{orderIn, Tells, Matches};

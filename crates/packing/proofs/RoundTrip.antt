@@ -12,7 +12,8 @@ use lib.ListN.{length, getD, take, drop, length-append, length-drop, take-append
 use lib.Seq.{take-suc, take-all, take-at, drop-at, drop-drop, getD-drop, getD-append-add, ext-getD}
 use Rattle.tanglegram.specs.Lists.{Each, range}
 use Rattle.tanglegram.proofs.Lists.{append-nil}
-use Rattle.format.specs.Fields.{two, numbers, bytes, split, holdOf, sizeOf, rightAt, linksAt, leftLayoutAt, rightLayoutAt, lengthOf, Parts, given, opening, parts, partsOf, packed}
+use Rattle.format.specs.Fields.{two, numbers, bytes, split, holdOf, sizeOf, rightAt, linksAt, leftLayoutAt, rightLayoutAt, lengthOf, Parts}
+use Rattle.format.specs.Fields.{given, opening, parts, partsOf, packed}
 use Rattle.format.specs.Refusals.{isMark, isHold, noSize, contents, heading, refusal}
 use Rattle.format.proofs.Tests.{and-both}
 use Rattle.format.proofs.Stores.{getD-made, length-numbers, length-split, split-append, map-range-end, take-more, length-bytes}

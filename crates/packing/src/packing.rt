@@ -8,6 +8,9 @@ ghost use Rattle.packing.specs.Refusals.{shape};
 ghost use Rattle.packing.specs.Shapes.{Shaped};
 ghost use Rattle.format.specs.Fields.{given, lengthOf, opening, packed};
 ghost use Rattle.format.specs.Refusals.{contents};
+use contents::bad_row_in;
+use contents::is_layout;
+use contents::one_to_one_in;
 use format::copying::bytes_in;
 use format::copying::numbers_in;
 use format::refusal::HOLD;
@@ -19,11 +22,8 @@ use format::refusal::RIGHT_ROW;
 use format::refusal::ROOM;
 use format::refusal::Refusal;
 use format::refusal::SIZE;
-use contents::bad_row_in;
 use record::heading::is_hold;
-use contents::is_layout;
 use record::heading::no_size;
-use contents::one_to_one_in;
 
 // 4 to 6 for the hold, n and the lengths of the five lists, or 0.
 fn shape_number(

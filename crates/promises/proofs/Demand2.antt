@@ -25,7 +25,6 @@ use Rattle.views.specs.Refusals.{ordering}
 use Rattle.table.specs.Refusals.{freeing}
 use Rattle.standing.specs.Shown.{shownOrder, shownCount}
 use Rattle.table.specs.Calls.{freedLayouts, Frees}
-use Rattle.views.specs.Calls.{Orders}
 use Rattle.table.specs.declared.answers.Freed.{Freed}
 use Rattle.standing.proofs.AsItStands.{given, side-perm}
 use Rattle.views.proofs.Outcomes.{ordering-good}

@@ -6,7 +6,7 @@ use mathlib.Core.List.{List, [], _∷_, _++_, map}
 use Rattle.tanglegram.specs.Lists.{range}
 use Rattle.tanglegram.specs.Run.{left, right}
 use Rattle.tanglegram.specs.Table.{crossings}
-use Rattle.tanglegram.proofs.Bench.{Given, Shown, Line, line, case, shows, bytes, ownOf}
+use Rattle.tanglegram.proofs.Bench.{Given, Shown, Line, case, ownOf}
 use Rattle.tanglegram.proofs.Bench as Definitions
 use Rattle.format.specs.Fields.{given, packed}
 use Rattle.format.specs.Refusals.{refusal}

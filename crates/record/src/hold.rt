@@ -2,10 +2,10 @@
 ghost use Rattle.record.specs.Calls.{SetsHold};
 ghost use mathlib.Core.Path.{_≡_};
 ghost use Rattle.format.specs.Refusals.{holding};
+use crate::heading::is_hold;
 use crate::reading::refusal_number;
 use format::refusal::HOLD;
 use format::refusal::Refusal;
-use crate::heading::is_hold;
 
 // Setting the hold's refusal, or 0: the letter's comes before the record's.
 fn holding_number(s: &[u8], letter: u8) -> u16

@@ -5,10 +5,10 @@ ghost use lib.ListN.{length};
 ghost use Rattle.record.specs.Calls.{Checks, Reads};
 ghost use Rattle.format.specs.Fields.{sizeOf};
 ghost use Rattle.format.specs.Refusals.{refusal};
+use crate::heading::heading_number;
+use contents::contents_number;
 use format::copying::number;
 use format::refusal::Refusal;
-use contents::contents_number;
-use crate::heading::heading_number;
 
 // What an accepted record's heading says.
 pub struct Header {

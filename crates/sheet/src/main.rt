@@ -3,8 +3,8 @@
 // `REFUSED 11`.
 use record::reading::Header;
 use record::reading::Reading;
-use views::answers::Entangled;
 use table::answers::Ran;
+use views::answers::Entangled;
 
 // The largest allowance of a run.
 const ALLOWANCE: u32 = 130818;

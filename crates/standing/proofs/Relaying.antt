@@ -7,7 +7,7 @@ use native.Mathlib.Omega.{arith}
 use lib.ListN.{length, take, drop, length-drop, drop-of-length-le}
 use lib.Seq.{take-all, take-add, drop-drop}
 use Rattle.tanglegram.specs.Run.{Side, left, right}
-use Rattle.tanglegram.specs.Table.{layout, put}
+use Rattle.tanglegram.specs.Table.{put}
 use Rattle.tanglegram.proofs.Lists.{append-nil}
 use Rattle.format.specs.Fields.{bytes, sizeOf, leftLayoutAt, rightLayoutAt, partsOf}
 use Rattle.format.specs.Meaning.{layoutsOf, relaid}

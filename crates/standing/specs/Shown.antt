@@ -1,12 +1,10 @@
 -- What an accepted record shows as it stands.
-use Prim.Native.Nat.{ℕ, _-_}
+use Prim.Native.Nat.{ℕ}
 use mathlib.Core.List.{List}
-use Rattle.tanglegram.specs.Crossings.{count}
 use Rattle.tanglegram.specs.Entanglement.{displacement}
 use Rattle.tanglegram.specs.Run.{Side, left, right}
 use Rattle.tanglegram.specs.Table.{orderOf, crossings}
 use Rattle.format.specs.Fields.{sizeOf, parts}
-use Rattle.record.specs.Calls.{accepted}
 use Rattle.format.specs.Meaning.{tableOf, layoutsOf}
 
 -- A side's order, the count, and the displacement.

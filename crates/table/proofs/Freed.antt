@@ -19,7 +19,8 @@ use Rattle.format.specs.Fields.{sizeOf, parts}
 use Rattle.format.specs.Refusals.{isLayout}
 use Rattle.format.specs.Meaning.{tableOf, layoutsOf, relaid}
 use Rattle.format.proofs.Acceptance.{accepted-sized, accepted-parts}
-use Rattle.format.proofs.Meaning.{accepted-fair, accepted-fits, length-left, length-right, relaid-accepted, size-relaid, table-relaid, layouts-of-relaid, relaid-again}
+use Rattle.format.proofs.Meaning.{accepted-fair, accepted-fits, length-left, length-right, relaid-accepted, size-relaid, table-relaid}
+use Rattle.format.proofs.Meaning.{layouts-of-relaid, relaid-again}
 use Rattle.format.proofs.Contents.{GoodParts}
 use Rattle.format.proofs.Tests.{all-each, each-all}
 use Rattle.leaf_arrays.specs.Arrays.{at, Holds}

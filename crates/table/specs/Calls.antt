@@ -4,7 +4,6 @@ use mathlib.Core.Path.{_≡_}
 use mathlib.Core.Bool.{cond}
 use mathlib.Core.List.{List}
 use Rattle.tanglegram.specs.Lists.{bit}
-use Rattle.tanglegram.specs.Crossings.{count}
 use Rattle.tanglegram.specs.Run.{right, End, more, go, run}
 use Rattle.tanglegram.specs.Table.{Layouts, crossings, free}
 use Rattle.record.specs.Calls.{refused, accepted, orZero}

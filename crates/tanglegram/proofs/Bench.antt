@@ -6,7 +6,7 @@ use mathlib.Core.Bool.{Bool, true, false}
 use mathlib.Core.List.{List, [], _∷_, map}
 use lib.ListN.{getD}
 use Rattle.tanglegram.specs.Lists.{place, range}
-use Rattle.tanglegram.specs.Tree.{Tree, leaf, leaves, deep, object, tree}
+use Rattle.tanglegram.specs.Tree.{Tree, leaves, deep, object, tree}
 use Rattle.tanglegram.specs.Order.{order, write}
 use Rattle.tanglegram.specs.Crossings.{over, across, pairs, count, leftCross, between}
 use Rattle.tanglegram.specs.Freeing.{choose, freed}

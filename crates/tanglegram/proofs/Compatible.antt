@@ -15,7 +15,8 @@ use lib.Seq.{take-add, drop-drop, take-all, getD-take, getD-drop}
 use Rattle.tanglegram.specs.Lists.{Each, Distinct, place, bit}
 use Rattle.tanglegram.specs.Tree.{Tree, leaf, fork, leaves, rows, EachObject, EachRow, tree, Rule}
 use Rattle.tanglegram.specs.Order.{turned, byte, order, Together, Compatible, uppermost, reading}
-use Rattle.tanglegram.proofs.Lists.{pairwise-split, mem-perm, length-perm, distinct-perm, mem-at, apart-mem, perm-single, place-at, place-part, all-distinct, each-perm, range-each}
+use Rattle.tanglegram.proofs.Lists.{pairwise-split, mem-perm, length-perm, distinct-perm, mem-at, apart-mem, perm-single, place-at}
+use Rattle.tanglegram.proofs.Lists.{place-part, all-distinct, each-perm, range-each}
 use Rattle.tanglegram.proofs.Tree.{leaves-once, rows-once}
 use Rattle.tanglegram.proofs.Write.{write-written}
 use Rattle.tanglegram.proofs.Order.{order-compatible, uppermost-leaf}

@@ -13,8 +13,11 @@ use lib.ListN.{length, getD}
 use Rattle.tanglegram.specs.Lists.{Distinct, Each, Pairwise, place, range, bit}
 use Rattle.tanglegram.specs.Tree.{Tree, leaf, fork, leaves, EachRow, total}
 use Rattle.tanglegram.specs.Order.{order, byte, turned}
-use Rattle.tanglegram.specs.Crossings.{crosses, over, pairs, to, back, end, leftCross, rightCross, count, inverted, seenLeft, seenRight, between, ownAt, cost}
-use Rattle.tanglegram.proofs.Lists.{each-map, each-all, each-perm, each-pairwise, pairwise-map, pairwise-split, length-range, place-head, place-tail, place-rising, at-place, map-ext, all-distinct, all-length, undone-apart, each-intro, each-mem, mem-at, mem-perm, mem-range, place-at, place-below, range-each}
+use Rattle.tanglegram.specs.Crossings.{crosses, over, pairs, to, back, end, leftCross, rightCross, count, inverted, seenLeft}
+use Rattle.tanglegram.specs.Crossings.{seenRight, between, ownAt, cost}
+use Rattle.tanglegram.proofs.Lists.{each-map, each-all, each-perm, each-pairwise, pairwise-map, pairwise-split, length-range}
+use Rattle.tanglegram.proofs.Lists.{place-head, place-tail, place-rising, at-place, map-ext, all-distinct, all-length, undone-apart}
+use Rattle.tanglegram.proofs.Lists.{each-intro, each-mem, mem-at, mem-perm, mem-range, place-at, place-below, range-each}
 use Rattle.tanglegram.proofs.Tree.{eachRow-zip, each-under}
 use Rattle.tanglegram.proofs.Order.{order-perm}
 use Rattle.tanglegram.proofs.Sums.{pairs-append, pairs-map, pairs-perm, pairs-ext, pairs-most, across-perm, across-ext, across-swap}

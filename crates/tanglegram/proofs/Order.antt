@@ -12,7 +12,8 @@ use lib.Seq.{take-append-seam, drop-append-seam}
 use Rattle.tanglegram.specs.Lists.{Each, Distinct}
 use Rattle.tanglegram.specs.Tree.{Tree, leaf, fork, leaves, rows, EachObject}
 use Rattle.tanglegram.specs.Order.{turned, byte, order, Together, Compatible, uppermost}
-use Rattle.tanglegram.proofs.Lists.{each-append, pairwise-split, mem-perm, length-perm, perm-append, append-nil, append-inj, mem-at, apart-mem, place-below}
+use Rattle.tanglegram.proofs.Lists.{each-append, pairwise-split, mem-perm, length-perm, perm-append, append-nil, append-inj, mem-at}
+use Rattle.tanglegram.proofs.Lists.{apart-mem, place-below}
 
 -- ys stand in xs in one piece
 abbrev Within : List ℕ → List ℕ → Type 0

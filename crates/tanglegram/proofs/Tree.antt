@@ -15,7 +15,8 @@ use lib.Dec.{leb}
 use lib.ListN.{length, length-append}
 use Rattle.tanglegram.specs.Lists.{Each, range}
 use Rattle.tanglegram.specs.Tree.{Tree, leaf, fork, leaves, rows, EachRow, used, deep, object, tree, Rule}
-use Rattle.tanglegram.proofs.Lists.{each-mem, each-map, each-append, each-split, mem-other, mem-perm, mem-range, take-out, range-snoc, length-perm, length-range}
+use Rattle.tanglegram.proofs.Lists.{each-mem, each-map, each-append, each-split, mem-other, mem-perm, mem-range, take-out}
+use Rattle.tanglegram.proofs.Lists.{range-snoc, length-perm, length-range}
 
 -- ---- each row
 

@@ -9,9 +9,9 @@ ghost use Rattle.format.specs.Fields.{partsOf, Sized};
 use format::copying::bytes_in;
 use format::copying::number;
 use format::copying::numbers_out;
-use record::reading::refusal_number;
 use format::refusal::ROOM;
 use format::refusal::Refusal;
+use record::reading::refusal_number;
 
 // What unpacking answers beside the buffers; hold and n are 0 where it refuses.
 pub struct Unpacked {

@@ -1,5 +1,4 @@
 -- `hand_list`: as many hands as the word said are at most as many as there is room for.
-use lib.ListN.{length}
 use native.Mathlib.Omega.{arith}
 use mathlib.Core.Path.{sym}
 use lib.Seq.{length-take-le}

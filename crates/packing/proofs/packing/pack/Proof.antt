@@ -1,7 +1,8 @@
 -- `pack` answers the first refusal, or writes the record.
 use mathlib.Core.Path.{sym, _∙_}
 use native.Mathlib.Omega.{arith}
-use Rattle.packing.proofs.Packed.{shape-some, shape-good, packing-shape, packing-contents, packing-14, packing-0, pack-refused, pack-accepted}
+use Rattle.packing.proofs.Packed.{shape-some, shape-good, packing-shape, packing-contents, packing-14, packing-0, pack-refused}
+use Rattle.packing.proofs.Packed.{pack-accepted}
 use borrow.Author.Needs.{needs}
 use Rattle.packing.proofs.packing.pack.Statement.{statement}
 use Rattle.packing.proofs.packing.pack.Tie as tie

@@ -1,6 +1,6 @@
 -- `far_places`: the places that a side's leaves see are those of the other side's present order.
 use Prim.Native.Nat.{_-_}
-use mathlib.Core.Path.{refl, sym, ap, _∙_}
+use mathlib.Core.Path.{_∙_}
 use native.Mathlib.Omega.{arith}
 use Rattle.leaf_arrays.proofs.Arrays.{one-to}
 use Rattle.standing.specs.Sides.{sideOf}

@@ -1,5 +1,5 @@
 -- `side_order`: the side's rows and layout bytes are the tree and the layout of the record's table.
-use mathlib.Core.Path.{refl, sym, ap, _∙_}
+use mathlib.Core.Path.{refl, ap, _∙_}
 use native.Mathlib.Omega.{arith}
 use lib.ListN.{length}
 use Rattle.standing.specs.Sides.{sideOf}

@@ -2,7 +2,8 @@
 use mathlib.Core.Path.{sym, _∙_}
 use native.Mathlib.Omega.{arith}
 use Rattle.standing.proofs.AsItStands.{long-enough}
-use Rattle.table.proofs.Turns.{running-12, running-record, running-11-left, running-11-right, running-0, none-allowed, too-many, allowed}
+use Rattle.table.proofs.Turns.{running-12, running-record, running-11-left, running-11-right, running-0, none-allowed, too-many}
+use Rattle.table.proofs.Turns.{allowed}
 use borrow.Author.Needs.{needs}
 use Rattle.table.proofs.taking_turns.running_number.Statement.{statement}
 use Rattle.table.proofs.taking_turns.running_number.Tie as tie

@@ -8,7 +8,8 @@ use native.Mathlib.Omega.{arith}
 use borrow.Author.Needs.{needs}
 use lib.ListN.{getD}
 use Rattle.trees.specs.Rows.{size}
-use Rattle.tree_rule.proofs.Marks.{Checked, refuses, allowed-below, bad-pair, bad-upper, bad-lower, checked-none, checked-more, checked-all}
+use Rattle.tree_rule.proofs.Marks.{Checked, refuses, allowed-below, bad-pair, bad-upper, bad-lower, checked-none, checked-more}
+use Rattle.tree_rule.proofs.Marks.{checked-all}
 use Rattle.tree_rule.proofs.checking.bad_row.Statement.{statement}
 use Rattle.tree_rule.proofs.checking.bad_row.Tie as tie
 
