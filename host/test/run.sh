@@ -1,14 +1,37 @@
 #!/usr/bin/env bash
-# All host tests, after rt has proved the crates: the peer's own tests, desk and sheet beside the peer, the C boundary,
-# and the stack, code and data of the calls. Ends with 1 at the first that fails.
+# All host tests, after rt has proved the crates. Two groups go on at a time: the peer's own tests, then desk and sheet
+# beside the peer; and the C boundary, then the stack, code and data of the calls. What they print stays in this order.
+# Ends with 1 if one of them fails, and then prints that group's output last.
 set -euo pipefail
 cd "$(dirname "$0")/../.."
-CARGO_TARGET_DIR=target/peer cargo test --quiet --release --offline --manifest-path host/peer/Cargo.toml > target/peer.log 2>&1 ||
-  { cat target/peer.log; exit 1; }
-grep '^test result' target/peer.log | tail -n 1
-bash host/test/desk.sh
-bash host/test/sheet.sh
-bash host/viewer/test.sh
-bash host/measure/stack.sh
-bash host/measure/size.sh gauge_calls
-cat target/measure/calls.txt
+mkdir -p target/test
+
+beside_the_peer() {
+  CARGO_TARGET_DIR=target/peer cargo test --quiet --release --offline --manifest-path host/peer/Cargo.toml \
+    > target/peer.log 2>&1 || { cat target/peer.log; return 1; }
+  grep '^test result' target/peer.log | tail -n 1
+  bash host/test/desk.sh
+  bash host/test/sheet.sh
+}
+
+for_the_device() {
+  bash host/viewer/test.sh
+  bash host/measure/stack.sh
+  bash host/measure/size.sh gauge_calls
+  cat target/measure/calls.txt
+}
+
+(set -e; for_the_device) > target/test/device.log 2>&1 &
+device=$!
+failed=''
+(set -e; beside_the_peer) > target/test/peer.log 2>&1 &
+wait $! || failed="$failed peer"
+wait "$device" || failed="$failed device"
+for group in peer device; do
+  case " $failed " in *" $group "*) ;; *) cat "target/test/$group.log" ;; esac
+done
+for group in $failed; do
+  cat "target/test/$group.log"
+  echo "host tests: the $group group failed"
+done
+[ -z "$failed" ]
