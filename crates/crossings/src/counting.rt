@@ -95,7 +95,8 @@ fn past_among(seen: &[u16; 512], at: usize, k: usize, q: u16) -> u16
 // `at` on and m of the second from index `from` on.
 pub fn count_across(seen: &[u16; 512], at: usize, k: usize, from: usize, m: usize) -> u32
     requires { ⌜ (at + k ≤ 512) × (from + m ≤ 512) × (length (now seen) ≡ 512) ⌝ }
-    ensures { λ r. ⌜ r ≡ across falls (take k (drop at (now (seen .entry)))) (take m (drop from (now (seen .entry)))) ⌝ }
+    ensures { λ r. ⌜ r
+        ≡ across falls (take k (drop at (now (seen .entry)))) (take m (drop from (now (seen .entry)))) ⌝ }
 {
     let mut count: u32 = 0;
     let mut j = 0;

@@ -52,7 +52,8 @@ module _ (s : List ℕ) (a : refusal s ≡ 0) where
   accepted-fair =
       let l = parts s .left-rows in
       let r = parts s .right-rows in
-      rule-fair (sizeOf s) (upper l) (lower l) (upper r) (lower r) (parts s .links) (accepted-sized s a .some) left-rule right-rule links-perm
+      rule-fair (sizeOf s) (upper l) (lower l) (upper r) (lower r) (parts s .links) (accepted-sized s a .some) left-rule right-rule
+      links-perm
 
   pub length-left : length (parts s .left-layout) ≡ sizeOf s - 1
   unfolding partsOf
@@ -69,7 +70,8 @@ module _ (s : List ℕ) (a : refusal s ≡ 0) where
   layouts-fit new p q =
       let l = parts s .left-rows in
       let r = parts s .right-rows in
-      rule-fits (sizeOf s) (upper l) (lower l) (upper r) (lower r) (parts s .links) (accepted-sized s a .some) left-rule right-rule links-perm
+      rule-fits (sizeOf s) (upper l) (lower l) (upper r) (lower r) (parts s .links) (accepted-sized s a .some) left-rule right-rule
+      links-perm
       new (omega arith) (omega arith)
 
   pub fits-long : (new : Layouts) → Fits accepted-fair new → (side : Side) → length (layout new side) ≡ sizeOf s - 1
@@ -78,7 +80,9 @@ module _ (s : List ℕ) (a : refusal s ≡ 0) where
       let l = parts s .left-rows in
       let r = parts s .right-rows in
       let z = accepted-sized s a .some in
-      f side ∙ rule-rows (sizeOf s) (upper l) (lower l) (upper r) (lower r) (parts s .links) z left-rule right-rule links-perm side ∙ omega arith
+      f side
+      ∙ rule-rows (sizeOf s) (upper l) (lower l) (upper r) (lower r) (parts s .links) z left-rule right-rule links-perm side
+      ∙ omega arith
 
   pub accepted-fits : Fits accepted-fair (layoutsOf s)
   accepted-fits = layouts-fit (layoutsOf s) length-left length-right

@@ -9,7 +9,8 @@ use crate::copying::numbers_out;
 // Fills a table with the n-1 rows from place `at` on.
 pub fn fill_table(s: &[u8], at: usize, n: u16, tab: &mut [u16; 1023])
     requires { ⌜ (1 ≤ n) × (n ≤ 512) × (at + 4 * (n - 1) ≤ length (now s)) × (length (now tab) ≡ 1023) ⌝ }
-    ensures { λ _. ⌜ now (tab .exit) ≡ set (sets (now (tab .entry)) 0 (numbers (now (s .entry)) at (2 * (n - 1)))) 1022 n ⌝ }
+    ensures { λ _. ⌜ now (tab .exit)
+        ≡ set (sets (now (tab .entry)) 0 (numbers (now (s .entry)) at (2 * (n - 1)))) 1022 n ⌝ }
 {
     numbers_out(s, at, 2 * (n as usize - 1), tab);
     tab[1022] = n;

@@ -83,7 +83,8 @@ module _ (s : List ℕ) (n : ℕ) (g : Given s n) where
   layout-within right = let z = g .sized in omega arith
 
   -- a side's layout, as the part of the record from its place on
-  pub part-layout : (side : Side) {from : ℕ} → from ≡ layoutAt n side → take (from + (n - 1) - from) (drop from s) ≡ layout (layoutsOf s) side
+  pub part-layout : (side : Side) {from : ℕ} → from ≡ layoutAt n side →
+      take (from + (n - 1) - from) (drop from s) ≡ layout (layoutsOf s) side
   part-layout side {from} e =
       ap (λ m. take m (drop from s)) (add-sub-cancel-left from (n - 1)) ∙ ap (λ k. bytes s k (n - 1)) e ∙ side-layout side
 

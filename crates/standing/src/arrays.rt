@@ -37,9 +37,8 @@ pub fn layout_at(n: u16, side: u16) -> usize
 pub fn side_order(s: &[u8], n: u16, side: u16, out: &mut [u16; 512])
     requires { ⌜ Given (now s) n ⌝ }
     requires { ⌜ length (now out) ≡ 512 ⌝ }
-    ensures { λ _. ⌜
-        now (out .exit) ≡ orderOf (tableOf (now (s .entry))) (layoutsOf (now (s .entry))) (sideOf side) ++ drop n (now (out .entry))
-        ⌝ }
+    ensures { λ _. ⌜ now (out .exit)
+        ≡ orderOf (tableOf (now (s .entry))) (layoutsOf (now (s .entry))) (sideOf side) ++ drop n (now (out .entry)) ⌝ }
 {
     let mut tab = [0u16; 1023];
     format::fill_table(s, rows_at(n, side), n, &mut tab);
@@ -52,7 +51,9 @@ pub fn side_order(s: &[u8], n: u16, side: u16, out: &mut [u16; 512])
 pub fn far_places(s: &[u8], n: u16, side: u16, out: &mut [u16; 512])
     requires { ⌜ Given (now s) n ⌝ }
     requires { ⌜ (isSide side ≡ true) × (length (now out) ≡ 512) ⌝ }
-    ensures { λ _. ⌜ Holds n (now (out .exit)) (farPlace (now (s .entry)) (sideOf side)) × (length (now (out .exit)) ≡ 512) ⌝ }
+    ensures { λ _. ⌜
+        Holds n (now (out .exit)) (farPlace (now (s .entry)) (sideOf side)) × (length (now (out .exit)) ≡ 512)
+        ⌝ }
 {
     let k = n as usize;
     let mut order = [0u16; 512];

@@ -186,7 +186,9 @@ module _ (w : ℕ → ℕ → ℕ) (t : Tree) (m : ℕ) (r : List·Permᴰ (rows
   freed-bytes b =
       let Small : ℕ → Type 0 = λ i. byte (freed w t lay) i ≤ 1 in
       let old : (i : ℕ) → byte lay i ≤ 1 = λ i. each-getD (pred i) lay b in
-      let at-rows = eachRow-map {Q = λ i u l. Small i} t (λ i u l h. ⊎-elim (λ e. rw e (flip-small (byte lay i))) (λ e. rw e (old i)) h) freed-either in
+      let at-rows =
+      eachRow-map {Q = λ i u l. Small i} t (λ i u l h. ⊎-elim (λ e. rw e (flip-small (byte lay i))) (λ e. rw e (old i)) h)
+      freed-either in
       let all = each-perm Small r (eachRow-rows Small t at-rows) in
       each-at (λ x. x ≤ 1) (freed w t lay)
       (λ i h. each-mem Small all (mem-range (suc i) 1 m (omega arith) (omega (arith, length-freed w t lay))))

@@ -61,7 +61,8 @@ returns c =
     let g = z .pre .0 in
     let room = z .pre .1 .1 in
     let h = c .before .before .before .before .if1 .taken in
-    let found = far-left _ _ g _ _ _ _ _ _ _ _ (w .places2 .ensures) (g .sized .most) (v .fill-links .ensures) (omega (arith, g .sized .most))
+    let found =
+    far-left _ _ g _ _ _ _ _ _ _ _ (w .places2 .ensures) (g .sized .most) (v .fill-links .ensures) (omega (arith, g .sized .most))
     (rw h at (u .side-order .ensures)) (c .far-ends .ensures) in
     (rw h (found .0), found .1 ∙ room)
 
@@ -74,7 +75,8 @@ returns-2 c =
     let g = z .pre .0 in
     let room = z .pre .1 .1 in
     let h = second-side _ (z .pre .1 .0) (c .before .before .before .before .if1 .left) in
-    let found = far-right _ _ g _ _ _ _ _ _ _ _ (w .places2 .ensures) (g .sized .most) (v .fill-links .ensures) (omega (arith, g .sized .most))
+    let found =
+    far-right _ _ g _ _ _ _ _ _ _ _ (w .places2 .ensures) (g .sized .most) (v .fill-links .ensures) (omega (arith, g .sized .most))
     (rw h at (u .side-order .ensures)) (c .near-ends .ensures) in
     (rw h (found .0), found .1 ∙ room)
 

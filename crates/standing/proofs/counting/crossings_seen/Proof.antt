@@ -16,8 +16,10 @@ far-places-requires c κs = (c .before .before .before .before .pre, (is-left, r
 count-seen-requires : tie.Need-count-seen-requires
 count-seen-requires c κs =
     let v = c .before .before in
-    let g = v .before .before .before .before .before .pre in
-    ((g .sized .most, order-one _ _ g left _ _ (v .before .before .side-order .ensures)), far-apart-side _ _ g left _ (v .far-places .ensures .0))
+    let g = v .before .before .before .before .before .pre in (
+      (g .sized .most, order-one _ _ g left _ _ (v .before .before .side-order .ensures)),
+      far-apart-side _ _ g left _ (v .far-places .ensures .0),
+    )
 
 returns : tie.Need-returns
 returns c =

@@ -32,14 +32,16 @@ returns-3 : tie.Need-returns-3
 returns-3 c =
     let q = c .before .before in
     let p = q .before .before in
-    ordering-14 _ _ _ (sym (p .before .is-side .ensures) ∙ not-false _ (p .if1 .left)) (sym (q .before .refusal-number .ensures) ∙ q .if2 .left)
+    ordering-14 _ _ _ (sym (p .before .is-side .ensures) ∙ not-false _ (p .if1 .left))
+    (sym (q .before .refusal-number .ensures) ∙ q .if2 .left)
     (rw (c .before .size-of .ensures) at (c .if3 .taken))
 
 returns-4 : tie.Need-returns-4
 returns-4 c =
     let q = c .before .before in
     let p = q .before .before in
-    ordering-0 _ _ _ (sym (p .before .is-side .ensures) ∙ not-false _ (p .if1 .left)) (sym (q .before .refusal-number .ensures) ∙ q .if2 .left)
+    ordering-0 _ _ _ (sym (p .before .is-side .ensures) ∙ not-false _ (p .if1 .left))
+    (sym (q .before .refusal-number .ensures) ∙ q .if2 .left)
     (rw (c .before .size-of .ensures) at (c .if3 .left))
 
 pub ordering-number-spec : {M : Type 1} → statement M
