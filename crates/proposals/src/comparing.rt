@@ -1,13 +1,11 @@
 // Better of two: of two orders proposed for a side, the one that crosses less against the other side's present order.
 ghost use mathlib.Core.Bool.{true};
 ghost use mathlib.Core.Path.{_≡_};
-ghost use Prim.Native.Nat.{_≤_};
-ghost use lib.ListN.{length, take};
-ghost use lib.Seq.{sets};
 ghost use Rattle.format.specs.Meaning.{tableOf};
 ghost use Rattle.proposals.specs.Calls.{BetterChecks, Betters, countWith};
 ghost use Rattle.proposals.specs.Refusals.{comparing, isOrder};
 ghost use Rattle.standing.specs.Sides.{Given, isSide, sideOf};
+use format::copying::copied;
 use format::refusal::ORDER;
 use format::refusal::Refusal;
 use format::refusal::SIDE;
@@ -15,29 +13,17 @@ use standing::far_places;
 use standing::is_side;
 use standing::rows_at;
 
-// Copies the first n entries of a lent order to an array's first places.
-fn copy_proposed(xs: &[u16], n: u16, out: &mut [u16; 512])
-    requires { ⌜ (n ≤ length (now xs)) × (n ≤ 512) × (length (now out) ≡ 512) ⌝ }
-    ensures { λ _. ⌜ now (out .exit) ≡ sets (now (out .entry)) 0 (take n (now (xs .entry))) ⌝ }
-{
-    let k = n as usize;
-    let mut i = 0;
-    while i < k {
-        out[i] = xs[i];
-        i += 1;
-    }
-}
-
 // Whether the first n entries of a lent order are an order of a side of an accepted record.
 fn is_order(s: &[u8], n: u16, side: u16, xs: &[u16]) -> bool
     requires { ⌜ Given (now s) n ⌝ }
     ensures { λ r. ⌜ r ≡ isOrder n (tableOf (now (s .entry)) .tree (sideOf side)) (now (xs .entry)) ⌝ }
 {
-    if xs.len() < n as usize {
+    let k = n as usize;
+    if xs.len() < k {
         return false;
     }
     let mut order = [0u16; 512];
-    copy_proposed(xs, n, &mut order);
+    copied(&xs[..k], &mut order);
     let mut tab = [0u16; 1023];
     format::fill_table(s, rows_at(n, side), n, &mut tab);
     matching::compatible(&tab, &order)
@@ -49,11 +35,12 @@ fn count_with(s: &[u8], n: u16, side: u16, xs: &[u16]) -> u32
     requires { ⌜ (isSide side ≡ true) × (isOrder n (tableOf (now s) .tree (sideOf side)) (now xs) ≡ true) ⌝ }
     ensures { λ r. ⌜ r ≡ countWith (now (s .entry)) (sideOf side) (now (xs .entry)) ⌝ }
 {
+    let k = n as usize;
     let mut order = [0u16; 512];
-    copy_proposed(xs, n, &mut order);
+    copied(&xs[..k], &mut order);
     let mut far = [0u16; 512];
     far_places(s, n, side, &mut far);
-    crossings::count_seen(&order, &far, n as usize)
+    crossings::count_seen(&order, &far, k)
 }
 
 // The refusal of comparing two orders, or 0.

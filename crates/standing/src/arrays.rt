@@ -3,8 +3,7 @@ ghost use mathlib.Core.Bool.{true};
 ghost use mathlib.Core.List.{_++_};
 ghost use mathlib.Core.Path.{_≡_};
 ghost use Prim.Native.Nat.{_≤_};
-ghost use lib.ListN.{drop, length, take};
-ghost use lib.Seq.{sets};
+ghost use lib.ListN.{drop, length};
 ghost use Rattle.leaf_arrays.specs.Arrays.{Holds};
 ghost use Rattle.format.specs.Meaning.{layoutsOf, tableOf};
 ghost use Rattle.standing.specs.Sides.{farPlace, Given, isSide, layoutAt, rowsAt, sideOf};
@@ -66,18 +65,5 @@ pub fn far_places(s: &[u8], n: u16, side: u16, out: &mut [u16; 512])
         leaf_arrays::far_ends(&links, &places, k, out);
     } else {
         leaf_arrays::near_ends(&links, &places, k, out);
-    }
-}
-
-// Copies the first n entries of an array to a buffer's first places.
-pub fn copy_order(made: &[u16; 512], n: u16, out: &mut [u16])
-    requires { ⌜ (n ≤ length (now made)) × (n ≤ 512) × (n ≤ length (now out)) ⌝ }
-    ensures { λ _. ⌜ now (out .exit) ≡ sets (now (out .entry)) 0 (take n (now (made .entry))) ⌝ }
-{
-    let k = n as usize;
-    let mut i = 0;
-    while i < k {
-        out[i] = made[i];
-        i += 1;
     }
 }

@@ -4,7 +4,6 @@ mod arrays;
 mod counting;
 mod sides;
 
-pub use arrays::copy_order;
 pub use arrays::far_places;
 pub use arrays::layout_at;
 pub use arrays::rows_at;

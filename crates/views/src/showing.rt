@@ -4,10 +4,10 @@ ghost use Rattle.views.specs.Calls.{Counts, Entangles, Orders};
 ghost use Rattle.views.specs.Refusals.{ordering};
 use crate::answers::Counted;
 use crate::answers::Entangled;
+use format::copying::copied;
 use format::refusal::ROOM;
 use format::refusal::Refusal;
 use format::refusal::SIDE;
-use standing::copy_order;
 use standing::crossings_paired;
 use standing::crossings_seen;
 use standing::displacement_of;
@@ -42,7 +42,7 @@ pub fn order(s: &[u8], side: u16, out: &mut [u16]) -> Refusal
     let n = record::size_of(s);
     let mut made = [0u16; 512];
     side_order(s, n, side, &mut made);
-    copy_order(&made, n, out);
+    copied(&made[..n as usize], out);
     Refusal { number: 0 }
 }
 

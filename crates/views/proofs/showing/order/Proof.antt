@@ -1,6 +1,7 @@
 -- `order`: a refused call leaves the buffer; otherwise the order stands in its first places.
 use mathlib.Core.Path.{refl, sym, _∙_}
 use native.Mathlib.Omega.{arith}
+use lib.Seq.{length-take-le}
 use Rattle.standing.specs.Sides.{sideOf}
 use Rattle.standing.proofs.FarEnds.{order-long}
 use Rattle.standing.proofs.AsItStands.{long-enough, given-size}
@@ -28,14 +29,27 @@ side-order-requires c κs =
     let a = ordering-good _ _ _ (sym (p .before .ordering-number .ensures) ∙ p .if1 .left) in
     (given-size _ (a .1) (c .before .size-of .ensures), refl)
 
-copy-order-requires : tie.Need-copy-order-requires
-copy-order-requires c κs =
+cast-made : tie.Need-cast-made
+cast-made c = search needs
+
+-- the array that the order was written to has n places
+array-share-prefix-made : tie.Need-array-share-prefix-made
+array-share-prefix-made c =
+    let q = c .before .before in
+    let p = q .before in
+    let a = ordering-good _ _ _ (sym (p .before .ordering-number .ensures) ∙ p .if1 .left) in
+    let side = sideOf (p .before .before .before .before .before .args .side) in
+    order-long _ _ (given-size _ (a .1) (q .size-of .ensures)) side _ _ (c .side-order .ensures)
+
+slice-aggregate-copied : tie.Need-slice-aggregate-copied
+slice-aggregate-copied c = sym (length-take-le _ _ (array-share-prefix-made (c .before)))
+
+copied-requires : tie.Need-copied-requires
+copied-requires c κs =
     let q = c .before .before .before .before in
     let p = q .before in
     let a = ordering-good _ _ _ (sym (p .before .ordering-number .ensures) ∙ p .if1 .left) in
-    let g = given-size _ (a .1) (q .size-of .ensures) in
-    let side = sideOf (p .before .before .before .before .before .args .side) in
-    (order-long _ _ g side _ _ (c .before .before .side-order .ensures), g .sized .most, omega (arith, a .2, q .size-of .ensures))
+    omega (arith, a .2, q .size-of .ensures, slice-aggregate-copied (c .before))
 
 same-length-2 : tie.Need-same-length-2
 same-length-2 c = search needs
@@ -47,7 +61,7 @@ returns-2 c =
     let q = w .before .before in
     let p = q .before in
     let a = sym (p .before .ordering-number .ensures) ∙ p .if1 .left in
-    order-accepted _ _ _ _ _ _ _ a (q .size-of .ensures) (w .side-order .ensures) (v .copy-order .ensures)
+    order-accepted _ _ _ _ _ _ _ a (q .size-of .ensures) (w .side-order .ensures) (v .copied .ensures)
 
 pub order-spec : {M : Type 1} → statement M
 order-spec =
@@ -58,6 +72,9 @@ order-spec =
     returns
     size-of-requires
     side-order-requires
-    copy-order-requires
+    cast-made
+    array-share-prefix-made
+    slice-aggregate-copied
+    copied-requires
     same-length-2
     returns-2)
