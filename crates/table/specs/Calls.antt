@@ -9,7 +9,7 @@ use lib.IntN.{pos}
 use Rattle.tanglegram.specs.Lists.{bit}
 use Rattle.tanglegram.specs.Crossings.{count}
 use Rattle.tanglegram.specs.Entanglement.{worst}
-use Rattle.tanglegram.specs.Run.{right, End, more, go, run}
+use Rattle.tanglegram.specs.Run.{Side, right, End, more, go, run}
 use Rattle.tanglegram.specs.Table.{Layouts, crossings, free}
 use Rattle.record.specs.declared.refusal.Refusal.{Refusal}
 use Rattle.record.specs.Fields.{sizeOf}
@@ -71,6 +71,12 @@ pub record Entangles (s : List ℕ) (answer : Entangled) : Type 0 where
   pub answers : answer ≡ entangled s
 
 -- ---- free
+
+-- A side of s freed: the counts before and after, and the record afterwards.
+pub record SideFreed (s : List ℕ) (side : Side) (before after : ℕ) (s′ : List ℕ) : Type 0 where
+  pub counted : before ≡ shownCount s
+  pub recounted : after ≡ crossings (tableOf s) (free (tableOf s) side (layoutsOf s))
+  pub leaves : s′ ≡ relaid s (free (tableOf s) side (layoutsOf s))
 
 -- The layouts after freeing a side.
 abbrev pub freedLayouts : List ℕ → ℕ → Layouts

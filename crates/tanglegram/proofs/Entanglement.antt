@@ -62,7 +62,7 @@ sum-ext f g [] e = refl
 sum-ext f g (x ∷ xs) e = ap₂ _+_ (e .0) (sum-ext f g xs (e .1))
 
 -- a sum does not ask for the order
-sum-perm : (f : ℕ → ℕ) {xs ys : List ℕ} → List·Permᴰ xs ys → sum f xs ≡ sum f ys
+pub sum-perm : (f : ℕ → ℕ) {xs ys : List ℕ} → List·Permᴰ xs ys → sum f xs ≡ sum f ys
 unfolding sum
 sum-perm f List·Permᴰ·nil = refl
 sum-perm f (List·Permᴰ·cons e d) = ap₂ _+_ (ap f e) (sum-perm f d)

@@ -8,6 +8,7 @@ pub mod Crossings
 pub mod Freeing
 pub mod Run
 pub mod Entanglement
+pub mod Totals
 pub mod Turning
 pub mod Table
 pub mod Bench
