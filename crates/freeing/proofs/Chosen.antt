@@ -20,7 +20,7 @@ use Rattle.tanglegram.proofs.Totals.{total-range}
 use Rattle.trees.specs.Rows.{upper, lower, size, objectOf, treeOf, Good}
 use Rattle.trees.specs.Exchange.{exchanged}
 use Rattle.trees.proofs.Exchanged.{Exchanges, exchanged-size, exchanged-good, exchanged-row, exchanged-object}
-use Rattle.freeing.specs.Row.{Apart, standing, turnedOver, gain, byteAfter, countAfter, fewest, sumTo, Frees, Freed}
+use Rattle.freeing.specs.Row.{Apart, standing, turnedOver, gain, byteAfter, countAfter, fewest, sumTo, Frees, RowsFreed}
 
 -- a row's own crossings at the other byte
 own-other : (a b x : ℕ) → own a b (flip x) ≡ cond (turned x) a b
@@ -112,7 +112,7 @@ module _ (w : ℕ → ℕ → ℕ) (T lay : List ℕ) (good : Good T) where
 
   -- so freeing by the table with the layout applied gives the freed layout, and sums the crossings before and after
   pub frees-freed : (W new : List ℕ) (before after : ℕ) → length lay + 1 ≡ size T → W ≡ exchanged T lay →
-      Frees w W lay new before after → Freed w (treeOf T) lay new before after
+      Frees w W lay new before after → RowsFreed w (treeOf T) lay new before after
   frees-freed W new before after enough e frees =
       let f = rw e at frees in
       let n = size T in

@@ -85,15 +85,6 @@ module _ (w : ℕ → ℕ → ℕ) (T old : List ℕ) (enough : length old + 1 �
     fewest-here : countAfter count other g ≡ fewest w T i
     fewest-here = ap₂ (λ c o. countAfter c o (ltb o c)) (row .stands) (row .over)
 
-    -- no sum can wrap
-    pub before-most : before + count ≤ 262144 * i
-    before-most = let from = done .from in omega (arith, done .before-few, row .few)
-
-    pub after-most : after + countAfter count other g ≤ 262144 * i
-    after-most =
-        let from = done .from in
-        omega (arith, done .after-few, count-most count other 262144 g (row .few) (row .few-over))
-
     pub freed-more : FreedTo w T old (set lay (i - 1) (byteAfter (getD lay (i - 1) 0) (ltb other count))) (i + 1) (before + count)
         (after + countAfter count other (ltb other count))
     unfolding next
@@ -106,8 +97,8 @@ module _ (w : ℕ → ℕ → ℕ) (T old : List ℕ) (enough : length old + 1 �
           kept = λ j p. getD-set-other lay (i - 1) (pred j) next 0 (omega arith) ∙ done .kept j (omega arith);
           counted = omega (arith, done .counted, row .stands, sum-more (standing w T) i from);
           recounted = omega (arith, done .recounted, fewest-here, sum-more (fewest w T) i from);
-          before-few = omega (arith, before-most);
-          after-few = omega (arith, after-most);
+          before-few = omega (arith, done .before-few, row .few);
+          after-few = omega (arith, done .after-few, count-most count other 262144 g (row .few) (row .few-over));
         }
 
   pub freed-all : (lay : List ℕ) (i before after : ℕ) → FreedTo w T old lay i before after → length old < i →

@@ -61,7 +61,7 @@ pub record Frees (w : ℕ → ℕ → ℕ) (T old new : List ℕ) (before after 
   pub recounted : after ≡ sumTo (fewest w T) (size T)
 
 -- A side is freed: the layout it leaves, and the sums of its rows' own crossings before and after.
-pub record Freed (w : ℕ → ℕ → ℕ) (t : Tree) (old new : List ℕ) (before after : ℕ) : Type 0 where
+pub record RowsFreed (w : ℕ → ℕ → ℕ) (t : Tree) (old new : List ℕ) (before after : ℕ) : Type 0 where
   pub leaves : new ≡ freed w t old
   pub counted : before ≡ cost w old t
   pub recounted : after ≡ cost w (freed w t old) t

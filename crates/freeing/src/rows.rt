@@ -7,7 +7,7 @@ ghost use Rattle.tanglegram.specs.Crossings.{inverted};
 ghost use Rattle.tanglegram.specs.Order.{flip};
 ghost use Rattle.trees.specs.Rows.{Good, size, treeOf};
 ghost use Rattle.crossings.specs.Arrays.{at};
-ghost use Rattle.freeing.specs.Row.{Apart, asItStands, byteAfter, countAfter, Freed, Frees, theOther};
+ghost use Rattle.freeing.specs.Row.{Apart, asItStands, byteAfter, countAfter, Frees, RowsFreed, theOther};
 use crossings::count_across;
 use crossings::held_along;
 use trees::exchange;
@@ -38,7 +38,7 @@ fn wide(x: u16) -> usize
 
 // A row's own crossings after freeing, from those as it stands, those turned over, and whether turning it over gains.
 fn freed_count(count: u32, other: u32, gain: bool) -> u32
-    ensures { λ r. ⌜ r ≡ countAfter count other gain ⌝ }
+    ensures { λ r. ⌜ (r ≡ countAfter count other gain) × (r ≤ count + other) ⌝ }
 {
     if gain { other } else { count }
 }
@@ -114,7 +114,7 @@ pub fn free_rows(tab: &[u16; 1023], far: &[u16; 512], lay: &mut [u8]) -> Sums
     requires { ⌜ Good (now tab) ⌝ }
     requires { ⌜ length (now lay) + 1 ≡ size (now tab) ⌝ }
     requires { ⌜ Apart (size (now tab)) (now far) ⌝ }
-    ensures { λ r. ⌜ Freed (inverted (at (now (far .entry)))) (treeOf (now (tab .entry))) (now (lay .entry))
+    ensures { λ r. ⌜ RowsFreed (inverted (at (now (far .entry)))) (treeOf (now (tab .entry))) (now (lay .entry))
         (now (lay .exit)) (r .before) (r .after) ⌝ }
 {
     let mut walked = *tab;

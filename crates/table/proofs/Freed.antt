@@ -24,7 +24,7 @@ use Rattle.record.proofs.Meaning.{table-relaid, layouts-of-relaid, relaid-again
 use Rattle.record.proofs.Contents.{GoodParts}
 use Rattle.record.proofs.Tests.{all-each, each-all}
 use Rattle.crossings.specs.Arrays.{at, Holds}
-use Rattle.freeing.specs.Row.{Freed}
+use Rattle.freeing.specs.Row.{RowsFreed}
 use Rattle.standing.specs.Sides.{Given, farPlace}
 use Rattle.table.specs.Calls.{SideFreed}
 use Rattle.standing.proofs.AsItStands.{side-leaves}
@@ -70,7 +70,8 @@ module _ (s : List ℕ) (n : ℕ) (g : Given s n) where
 
     -- so the sums of the rows' own crossings by them are the counts
     pub side-freed : {t : Tree} {old new s′ : List ℕ} {before after : ℕ} → t ≡ tree → old ≡ now →
-        Freed (inverted (at far)) t old new before after → s′ ≡ relaid s (put side new (layoutsOf s)) → SideFreed s side before after s′
+        RowsFreed (inverted (at far)) t old new before after → s′ ≡ relaid s (put side new (layoutsOf s)) →
+        SideFreed s side before after s′
     side-freed e o f r = record {
       counted = f .counted ∙ ap₂ (cost (inverted (at far))) o e ∙ cost-held now ∙ sym (count-own (tableOf s) fair side (layoutsOf s));
       recounted =

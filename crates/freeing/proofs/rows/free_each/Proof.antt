@@ -13,7 +13,7 @@ use Rattle.trees.specs.Rows.{size, treeOf}
 use Rattle.crossings.specs.Arrays.{at}
 use Rattle.freeing.proofs.Counted.{Noted, Parts, own-counted, noted-leaves, noted-more, parts, first-below, second-below}
 use Rattle.freeing.proofs.Seen.{order-long, order-first, order-leaves, seen-long, seen-first}
-use Rattle.freeing.proofs.Freed.{FreedTo, Own, freed-none, freed-more, freed-all, before-most, after-most}
+use Rattle.freeing.proofs.Freed.{FreedTo, Own, freed-none, freed-more, freed-all}
 use Rattle.freeing.proofs.rows.free_each.Statement.{statement}
 use Rattle.freeing.proofs.rows.free_each.Tie as tie
 
@@ -246,7 +246,7 @@ add-before c =
     let o = c .before .before in
     let l = atLoop (o .before .before) in
     let most = startOf l .pre .0 .most in
-    omega (arith, before-most _ _ _ (startOf l .pre .1 .0) _ _ _ _ (l .loop .inv .0) (row-below (o .before .before)) _ _ (own-here o))
+    omega (arith, row-below (o .before .before), l .loop .inv .0 .before-few, own-here o .few)
 
 freed-count-requires : tie.Need-freed-count-requires Inv-loop μ-loop
 freed-count-requires c κs = search needs
@@ -256,8 +256,8 @@ add-after c =
     let o = c .before .before .before in
     let l = atLoop (o .before .before) in
     let most = startOf l .pre .0 .most in
-    rw (c .freed-count .ensures)
-    (omega (arith, after-most _ _ _ (startOf l .pre .1 .0) _ _ _ _ (l .loop .inv .0) (row-below (o .before .before)) _ _ (own-here o)))
+    let own = own-here o in
+    omega (arith, row-below (o .before .before), l .loop .inv .0 .after-few, own .few, own .few-over, c .freed-count .ensures .1)
 
 cast-from : tie.Need-cast-from Inv-loop μ-loop
 cast-from c = search needs
@@ -308,7 +308,7 @@ loop-again c =
     let noted = noted-more (a .walked .now) (s .pre .0) (a .far .now) (s .pre .1 .1) (seenIn (l .before)) (seen-long-here (l .before))
     (seen-first-here (l .before)) (l .loop .from) (l .loop .many) (l .loop .row) (l .loop .inv .0 .from) (row-below w) (l .loop .inv .1)
     (w .before .before .wide .result) (w .wide2 .result) (w .before .before .wide .ensures) (w .wide2 .ensures) in
-    (rw (b .freed-byte .ensures, c .freed-count .ensures) freed, noted)
+    (rw (b .freed-byte .ensures, c .freed-count .ensures .0) freed, noted)
 
 same-length : tie.Need-same-length Inv-loop μ-loop
 same-length c = search needs
