@@ -1,24 +1,26 @@
 -- A row in a table with a layout applied: as it stands it has its own crossings at its byte, and turned over those at the other byte.
--- So the test whether turning it over gains there is the test by which freeing chooses its byte, and all rows so make the freed layout.
+-- So the test whether turning it over gains there is the test by which freeing chooses its byte, all rows so make the freed layout, and
+-- their own crossings before and after sum to the side's.
 use Prim.Native.Nat.{ℕ, pred, _+_, _*_, _≤_, _<_}
-use mathlib.Core.Path.{_≡_, sym, ap, ap₂, _∙_}
+use mathlib.Core.Path.{_≡_, refl, sym, ap, ap₂, _∙_}
 use mathlib.Core.Bool.{Bool, true, false, cond}
 use mathlib.Core.List.{List, List·Permᴰ}
 use native.Mathlib.Omega.{arith}
 use lib.Dec.{ltb}
 use lib.ListN.{length}
-use Rattle.tanglegram.specs.Tree.{leaves}
+use Rattle.tanglegram.specs.Tree.{Tree, leaves, EachRow}
 use Rattle.tanglegram.specs.Order.{byte, turned, flip}
-use Rattle.tanglegram.specs.Crossings.{between, own}
+use Rattle.tanglegram.specs.Crossings.{between, own, ownAt, cost}
 use Rattle.tanglegram.specs.Freeing.{choose, chooseAt, freed}
 use Rattle.tanglegram.proofs.Order.{order-perm}
 use Rattle.tanglegram.proofs.Sums.{across-perm}
 use Rattle.tanglegram.proofs.Tree.{rows-each, rows-once}
 use Rattle.tanglegram.proofs.Freeing.{own-flip, freed-unique}
+use Rattle.tanglegram.proofs.Totals.{total-range}
 use Rattle.trees.specs.Rows.{upper, lower, size, objectOf, treeOf, Good}
 use Rattle.trees.specs.Exchange.{exchanged}
 use Rattle.trees.proofs.Exchanged.{Exchanges, exchanged-size, exchanged-good, exchanged-row, exchanged-object}
-use Rattle.freeing.specs.Row.{Apart, standing, turnedOver, gain, byteAfter, Frees}
+use Rattle.freeing.specs.Row.{Apart, standing, turnedOver, gain, byteAfter, countAfter, fewest, sumTo, Frees, RowsFreed}
 
 -- a row's own crossings at the other byte
 own-other : (a b x : ℕ) → own a b (flip x) ≡ cond (turned x) a b
@@ -27,6 +29,11 @@ own-other a b x = go (turned x) (own-flip a b x)
     go : (t : Bool) → cond t b a + own a b (flip x) ≡ a + b → own a b (flip x) ≡ cond t a b
     go true h = omega arith
     go false h = omega arith
+
+-- a row's own crossings at the byte after freeing
+at-byte : (a b x : ℕ) (g : Bool) → own a b (byteAfter x g) ≡ countAfter (own a b x) (own a b (flip x)) g
+at-byte a b x true = refl
+at-byte a b x false = refl
 
 -- a table with a layout applied can be walked and counted as the table as given can
 module _ (T lay W : List ℕ) (is : W ≡ exchanged T lay) (good : Good T) where
@@ -75,15 +82,54 @@ module _ (w : ℕ → ℕ → ℕ) (T lay : List ℕ) (good : Good T) where
     unfolding choose
     byte-chosen = ap (byteAfter (byte lay i)) (ap₂ ltb turned-own standing-own)
 
-  -- so freeing by the table with the layout applied gives the freed layout
-  pub frees-freed : (W new : List ℕ) → length lay + 1 ≡ size T → W ≡ exchanged T lay → Frees w W lay new → new ≡ freed w (treeOf T) lay
-  frees-freed W new enough e frees =
+    -- its own crossings at its byte, and at the byte that freeing leaves
+    own-before : ownAt w lay i (objectOf T (upper T i)) (objectOf T (lower T i)) ≡ standing w (exchanged T lay) i
+    own-before = sym standing-own
+
+    own-after : (new : List ℕ) → byte new i ≡ byteAfter (byte lay i) (gain w (exchanged T lay) i) →
+        ownAt w new i (objectOf T (upper T i)) (objectOf T (lower T i)) ≡ fewest w (exchanged T lay) i
+    own-after new e =
+        ap (own (standing w T i) (turnedOver w T i)) e
+        ∙ at-byte (standing w T i) (turnedOver w T i) (byte lay i) (gain w (exchanged T lay) i)
+        ∙ ap₂ (λ a b. countAfter a b (gain w (exchanged T lay) i)) (sym standing-own) (sym turned-own)
+
+  -- what holds of each row by its number, at each row of the tree
+  at-each-row : (P : ℕ → Tree → Tree → Type 0) →
+      ((i : ℕ) → 1 ≤ i → i < size T → P i (objectOf T (upper T i)) (objectOf T (lower T i))) → EachRow P (treeOf T)
+  at-each-row P h =
+      let n = size T in
+      let some = good .some in
+      rows-each n (upper T) (lower T) (good .rule) P h (n + pred n) (n + pred n) (omega arith) (omega arith)
+
+  -- so the sum over the rows by their numbers is the one over the tree
+  cost-summed : (any : List ℕ) (f : ℕ → ℕ) →
+      ((i : ℕ) → 1 ≤ i → i < size T → ownAt w any i (objectOf T (upper T i)) (objectOf T (lower T i)) ≡ f i) →
+      cost w any (treeOf T) ≡ sumTo f (size T)
+  unfolding cost
+  cost-summed any f h =
+      total-range (ownAt w any) f (treeOf T) (pred (size T)) (rows-once (size T) (upper T) (lower T) (good .rule) (good .some))
+      (at-each-row (λ i u l. ownAt w any i u l ≡ f i) h)
+
+  -- so freeing by the table with the layout applied gives the freed layout, and sums the crossings before and after
+  pub frees-freed : (W new : List ℕ) (before after : ℕ) → length lay + 1 ≡ size T → W ≡ exchanged T lay →
+      Frees w W lay new before after → RowsFreed w (treeOf T) lay new before after
+  frees-freed W new before after enough e frees =
       let f = rw e at frees in
       let n = size T in
       let some = good .some in
       let long = f .long in
-      let chosen : (i : ℕ) → 1 ≤ i → i < n → byte new i ≡ chooseAt w lay i (objectOf T (upper T i)) (objectOf T (lower T i)) =
-      λ i p q. f .bytes i p (rw (exchanged-size T lay good) q) ∙ byte-chosen i p q in
+      let X = exchanged T lay in
+      let same = exchanged-size T lay good in
+      let byte-after : (i : ℕ) → 1 ≤ i → i < n → byte new i ≡ byteAfter (byte lay i) (gain w X i) =
+      λ i p q. f .bytes i p (rw same q) in
+      let is : new ≡ freed w (treeOf T) lay =
       freed-unique w (treeOf T) (pred n) (rows-once n (upper T) (lower T) (good .rule) some) lay (omega arith) new (omega arith)
-      (rows-each n (upper T) (lower T) (good .rule) (λ i u l. byte new i ≡ chooseAt w lay i u l) chosen
-      (n + pred n) (n + pred n) (omega arith) (omega arith))
+      (at-each-row (λ i u l. byte new i ≡ chooseAt w lay i u l) (λ i p q. byte-after i p q ∙ byte-chosen i p q)) in
+      record {
+        leaves = is;
+        counted = f .counted ∙ ap (sumTo (standing w X)) same ∙ sym (cost-summed lay (standing w X) own-before);
+        recounted =
+            f .recounted ∙ ap (sumTo (fewest w X)) same
+            ∙ sym (cost-summed new (fewest w X) (λ i p q. own-after i p q new (byte-after i p q)))
+            ∙ ap (λ l. cost w l (treeOf T)) is;
+      }

@@ -1,12 +1,12 @@
 -- A row's two parts, by the far places of their leaves' links in an array of those of all leaves, in the tree's order: where they stand
--- there, that both ways together are as many as the pairs, and that comparing the two ways tells whether turning the row over gains.
+-- there, what they count the one way and the other, and that both ways together are as many as the pairs.
 use Prim.Native.Nat.{ℕ, zero, suc, _+_, _-_, _*_, _≤_, _<_}
 use mathlib.Core.Path.{_≡_, refl, sym, ap, ap₂, _∙_, subst}
 use mathlib.Core.Logic.{_≢_}
 use mathlib.Core.List.{List, [], _∷_, _++_, map, map-append, List·Permᴰ, Permᴰ·symm, Permᴰ·map}
 use native.Mathlib.Decide.{ℕ-discrete}
+use native.Mathlib.Nat.{mul-le-mul}
 use native.Mathlib.Omega.{arith}
-use lib.Dec.{ltb}
 use lib.ListN.{length, getD, set, take, drop, replicate, length-append, length-map, length-set, length-replicate, getD-replicate}
 use lib.Seq.{drop-cons, getD-take, getD-set-same, getD-set-other}
 use Rattle.tanglegram.specs.Lists.{Distinct, range, place}
@@ -21,16 +21,10 @@ use Rattle.trees.proofs.Walked.{length-leaves, leaves-leaf}
 use Rattle.leaf_arrays.specs.Arrays.{at, falls}
 use Rattle.leaf_arrays.proofs.OneToOne.{at-place-leaf}
 use Rattle.crossings.proofs.Runs.{across-falls}
-use Rattle.freeing.specs.Row.{Apart, standing, turnedOver, gain, asItStands, theOther}
+use Rattle.freeing.specs.Row.{Apart, standing, turnedOver, asItStands, theOther}
 use Rattle.freeing.proofs.Under.{pairwise-unmapped, row-at}
+use Rattle.freeing.proofs.Freed.{Own}
 use Rattle.freeing.proofs.Stands.{Stands, Somewhere, stands-both, somewhere-under, together}
-
--- the other way there are as many crossings as pairs less those one way, so fewer by that test
-pub fewer : (c a b pairs : ℕ) → c ≡ a → a + b ≡ pairs → ltb (pairs - c) c ≡ ltb b a
-fewer c a b pairs e f = let g : pairs - c ≡ b = omega arith in ap₂ ltb g e
-
-pub fewer-other : (c a b pairs : ℕ) → c ≡ b → a + b ≡ pairs → ltb c (pairs - c) ≡ ltb b a
-fewer-other c a b pairs e f = let g : pairs - c ≡ a = omega arith in ap₂ ltb e g
 
 -- ---- a row's two entries, by the places that the code reads
 
@@ -75,7 +69,19 @@ pub record Noted (far W seen from many : List ℕ) (top : ℕ) : Type 0 where
 pub record Parts (far W seen : List ℕ) (i k first second : ℕ) : Type 0 where
   pub fits : k + first + second ≤ size W
   pub both-ways : asItStands seen k first second + theOther seen k first second ≡ first * second
-  pub tells : ltb (theOther seen k first second) (asItStands seen k first second) ≡ gain (inverted (at far)) W i
+  pub stands : asItStands seen k first second ≡ standing (inverted (at far)) W i
+  pub other : theOther seen k first second ≡ turnedOver (inverted (at far)) W i
+  pub few : first * second ≤ 262144
+
+-- counting them one way gives its own crossings, and the pairs less those give the ones turned over
+pub own-counted : {far W seen : List ℕ} {i k first second : ℕ} → Parts far W seen i k first second →
+    {count : ℕ} → count ≡ asItStands seen k first second → Own (inverted (at far)) W i count (first * second - count)
+own-counted p e = record {
+  stands = e ∙ p .stands;
+  over = omega (arith, e, p .both-ways, p .other);
+  few = omega (arith, e, p .both-ways, p .few);
+  few-over = omega (arith, p .few);
+}
 
 getD-mapped : (f : ℕ → ℕ) (xs : List ℕ) (k : ℕ) → k < length xs → getD (map f xs) k 0 ≡ f (getD xs k 0)
 getD-mapped f [] k h = absurd (omega arith)
@@ -207,7 +213,13 @@ module _ (W : List ℕ) (good : Good W) (far : List ℕ) (apart : Apart (size W)
             both-ways =
                 ap₂ _+_ stands other ∙ row-product i p q
                 ∙ sym (ap₂ _*_ (m ∙ simp length-map refl) (second-stands .many ∙ simp length-map refl));
-            tells = ap₂ ltb other stands;
+            stands = stands;
+            other = other;
+            few =
+                let most = good .most in
+                let p : first ≤ 512 = omega (arith, both-stand .within) in
+                let q : second ≤ 512 = omega (arith, both-stand .within) in
+                mul-le-mul p q;
           }
 
       pub noted-more :
@@ -219,7 +231,8 @@ module _ (W : List ℕ) (good : Good W) (far : List ℕ) (apart : Apart (size W)
       }
         where
           go : (o : ℕ) → 1 ≤ o → o < size W + (i + 1) → Dec (o ≡ size W + i) →
-              Stands seen (size W) (farUnder far W o) (getD (set from (size W + i) k) o 0) (getD (set many (size W + i) (first + second)) o 0)
+              Stands seen (size W) (farUnder far W o) (getD (set from (size W + i) k) o 0)
+              (getD (set many (size W + i) (first + second)) o 0)
           go o c d (yes e) =
               let most = good .most in
               let f = before .from-long in

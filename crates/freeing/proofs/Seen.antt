@@ -19,7 +19,8 @@ module _ (W : List ℕ) (good : Good W) (order : List ℕ) (is : order ≡ leave
   order-long =
       let rest : List ℕ = drop (size W) (replicate 512 0) in
       let most = good .most in
-      ap length is ∙ omega (arith, length-append (leaves (treeOf W)) rest, length-leaves W good, length-drop (size W) (replicate {A = ℕ} 512 0))
+      ap length is
+      ∙ omega (arith, length-append (leaves (treeOf W)) rest, length-leaves W good, length-drop (size W) (replicate {A = ℕ} 512 0))
 
   pub order-first : take (size W) order ≡ leaves (treeOf W)
   order-first = ap (take (size W)) is ∙ take-at (leaves (treeOf W)) (drop (size W) (replicate 512 0)) (size W) (length-leaves W good)
@@ -39,7 +40,13 @@ module _ (W : List ℕ) (good : Good W) (order : List ℕ) (is : order ≡ leave
     seen-long =
         let most = good .most in
         ap length over
-        ∙ omega (arith, length-append (map (at far) (take (size W) order)) (drop (size W) order), far-long, length-drop (size W) order, order-long)
+        ∙ omega (
+          arith,
+          length-append (map (at far) (take (size W) order)) (drop (size W) order),
+          far-long,
+          length-drop (size W) order,
+          order-long,
+        )
 
     pub seen-first : take (size W) seen ≡ map (at far) (leaves (treeOf W))
     seen-first =

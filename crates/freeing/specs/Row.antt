@@ -1,5 +1,6 @@
--- The rows of a side that is freed: what is asked of the links, whether turning a row over gains, and its byte afterwards.
-use Prim.Native.Nat.{ℕ, _+_, _≤_, _<_}
+-- The rows of a side that is freed: what is asked of the links, whether turning a row over gains, its byte afterwards, and the rows' own
+-- crossings summed.
+use Prim.Native.Nat.{ℕ, pred, _+_, _≤_, _<_}
 use mathlib.Core.Path.{_≡_}
 use mathlib.Core.Bool.{Bool, cond, _&&_}
 use mathlib.Core.List.{List, map}
@@ -7,7 +8,10 @@ use lib.Dec.{ltb}
 use lib.ListN.{length, take, drop}
 use Rattle.tanglegram.specs.Lists.{Each, Distinct, range}
 use Rattle.tanglegram.specs.Order.{byte, mayChange, flip}
-use Rattle.tanglegram.specs.Crossings.{across, between}
+use Rattle.tanglegram.specs.Tree.{Tree}
+use Rattle.tanglegram.specs.Crossings.{across, between, cost}
+use Rattle.tanglegram.specs.Freeing.{freed}
+use Rattle.tanglegram.specs.Entanglement.{sum}
 use Rattle.trees.specs.Rows.{upper, lower, size, objectOf}
 use Rattle.leaf_arrays.specs.Arrays.{at, falls}
 
@@ -38,7 +42,26 @@ theOther seen at first second = across falls (take second (drop (at + first) see
 abbrev pub byteAfter : ℕ → Bool → ℕ
 byteAfter x gains = cond (mayChange x && gains) (flip x) x
 
--- Each row has its byte after freeing, by its own crossings in a table.
-pub record Frees (w : ℕ → ℕ → ℕ) (T old new : List ℕ) : Type 0 where
+-- Its own crossings after freeing, from those as it stands, those turned over, and whether turning it over gains.
+abbrev pub countAfter : ℕ → ℕ → Bool → ℕ
+countAfter count other gains = cond gains other count
+
+abbrev pub fewest : (ℕ → ℕ → ℕ) → List ℕ → ℕ → ℕ
+fewest w T i = countAfter (standing w T i) (turnedOver w T i) (gain w T i)
+
+-- The sum of f over the rows before row i.
+abbrev pub sumTo : (ℕ → ℕ) → ℕ → ℕ
+sumTo f i = sum f (range 1 (pred i))
+
+-- Each row has its byte after freeing, by its own crossings in a table, and these are summed, as they stand and after freeing.
+pub record Frees (w : ℕ → ℕ → ℕ) (T old new : List ℕ) (before after : ℕ) : Type 0 where
   pub long : length new ≡ length old
   pub bytes : (i : ℕ) → 1 ≤ i → i < size T → byte new i ≡ byteAfter (byte old i) (gain w T i)
+  pub counted : before ≡ sumTo (standing w T) (size T)
+  pub recounted : after ≡ sumTo (fewest w T) (size T)
+
+-- A side is freed: the layout it leaves, and the sums of its rows' own crossings before and after.
+pub record RowsFreed (w : ℕ → ℕ → ℕ) (t : Tree) (old new : List ℕ) (before after : ℕ) : Type 0 where
+  pub leaves : new ≡ freed w t old
+  pub counted : before ≡ cost w old t
+  pub recounted : after ≡ cost w (freed w t old) t

@@ -2,4 +2,5 @@
 // crate `trees`), and the far places of the leaves' links as an array by leaf (the crate `crossings`).
 mod rows;
 
+pub use rows::Sums;
 pub use rows::free_rows;

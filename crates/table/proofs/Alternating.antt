@@ -15,7 +15,7 @@ use Rattle.format.proofs.Acceptance.{accepted-sized}
 use Rattle.format.proofs.Meaning.{length-left, length-right, relaid-again, relaid-same}
 use Rattle.standing.specs.Sides.{isSide, sideOf, Given}
 use Rattle.standing.specs.Shown.{shownCount}
-use Rattle.table.specs.Calls.{ranTo, onward, Turned}
+use Rattle.table.specs.Calls.{SideFreed, ranTo, onward, Turned}
 use Rattle.standing.proofs.FarEnds.{second-side}
 use Rattle.table.proofs.Freed.{freed-table, freed-layouts, freed-again}
 use Rattle.table.proofs.Turns.{given-after}
@@ -44,7 +44,7 @@ pub record Turning (s₀ : List ℕ) (n allowance : ℕ) (s : List ℕ) (last tu
   pub stands : Given s n
   pub same : tableOf s ≡ tableOf s₀
   pub laid : relaid s₀ (layoutsOf s) ≡ s
-  pub counted : last ≡ shownCount s
+  pub counted : last ≡ crossings (tableOf s₀) (layoutsOf s)
   pub one : isSide side ≡ true
   pub within : turns ≤ allowance
   pub rest : onward s₀ allowance ≡
@@ -64,9 +64,6 @@ module _ (s₀ : List ℕ) (n : ℕ) (g₀ : Given s₀ n) where
   }
 
   module _ (allowance last turns side : ℕ) (s : List ℕ) (t : Turning s₀ n allowance s last turns side) where
-    cost : crossings (tableOf s₀) (layoutsOf s) ≡ last
-    cost = ap (λ T. crossings T (layoutsOf s)) (sym (t .same)) ∙ sym (t .counted)
-
     -- the allowance is used up
     pub turning-end : allowance ≤ turns → Turned s₀ (onward s₀ allowance) last turns 0 s
     unfolding go
@@ -74,15 +71,17 @@ module _ (s₀ : List ℕ) (n : ℕ) (g₀ : Given s₀ n) where
         let none : allowance - turns ≡ 0 = omega arith in
         let e = t .rest ∙ ap (λ m. plus turns (go (crossings (tableOf s₀)) (free (tableOf s₀)) m (sideOf side) (layoutsOf s))) none in
         record {
-          last-count = rw (ap (λ x. x .last) e) (sym cost);
+          last-count = rw (ap (λ x. x .last) e) (t .counted);
           taken = omega (arith, ap (λ x. x .turns) e);
           ended = rw (ap (λ x. x .settled) e) refl;
           leaves = rw (ap (λ x. x .last) e) (sym (t .laid));
         }
 
     -- one turn more
-    module _ (next : turns < allowance) (last′ : ℕ) (s′ : List ℕ)
-        (e : s′ ≡ relaid s (free (tableOf s) (sideOf side) (layoutsOf s))) (c : last′ ≡ shownCount s′) where
+    module _ (next : turns < allowance) (before last′ : ℕ) (s′ : List ℕ) (f : SideFreed s (sideOf side) before last′ s′) where
+      e : s′ ≡ relaid s (free (tableOf s) (sideOf side) (layoutsOf s))
+      e = f .leaves
+
       layouts : layoutsOf s′ ≡ free (tableOf s₀) (sideOf side) (layoutsOf s)
       layouts = ap layoutsOf e ∙ freed-layouts s n (t .stands) (sideOf side) ∙ ap (λ T. free T (sideOf side) (layoutsOf s)) (t .same)
 
@@ -94,17 +93,21 @@ module _ (s₀ : List ℕ) (n : ℕ) (g₀ : Given s₀ n) where
           let z = accepted-sized s₀ (g₀ .accepted) in
           let a = t .stands .accepted in
           let size : sizeOf s ≡ sizeOf s₀ = t .stands .sized .says ∙ sym (g₀ .sized .says) in
-          sym (relaid-again s₀ z (layoutsOf s) (length-left s a ∙ ap (λ m. m - 1) size) (length-right s a ∙ ap (λ m. m - 1) size) (layoutsOf s′))
+          sym (relaid-again s₀ z (layoutsOf s) (length-left s a ∙ ap (λ m. m - 1) size) (length-right s a ∙ ap (λ m. m - 1) size)
+          (layoutsOf s′))
           ∙ ap₂ relaid (t .laid) (ap layoutsOf e ∙ freed-layouts s n (t .stands) (sideOf side))
           ∙ sym e
 
-      cost′ : crossings (tableOf s₀) (free (tableOf s₀) (sideOf side) (layoutsOf s)) ≡ last′
-      cost′ = ap₂ crossings (sym same-table) (sym layouts) ∙ sym c
+      cost : before ≡ crossings (tableOf s₀) (layoutsOf s)
+      cost = f .counted ∙ ap (λ T. crossings T (layoutsOf s)) (t .same)
+
+      cost′ : last′ ≡ crossings (tableOf s₀) (free (tableOf s₀) (sideOf side) (layoutsOf s))
+      cost′ = f .recounted ∙ ap (λ T. crossings T (free T (sideOf side) (layoutsOf s))) (t .same)
 
       left-over : allowance - turns ≡ suc (allowance - (turns + 1))
       left-over = omega arith
 
-      pub turning-gain : last′ < last → Turning s₀ n allowance s′ last′ (turns + 1) (3 - side)
+      pub turning-gain : last′ < before → Turning s₀ n allowance s′ last′ (turns + 1) (3 - side)
       turning-gain h =
           let o = other-side side (t .one) in
           let C = crossings (tableOf s₀) in
@@ -112,10 +115,10 @@ module _ (s₀ : List ℕ) (n : ℕ) (g₀ : Given s₀ n) where
           let k = allowance - (turns + 1) in
           let gain : C (F (sideOf side) (layoutsOf s)) < C (layoutsOf s) = omega (arith, cost, cost′) in
           record {
-            stands = given-after s n (t .stands) (sideOf side) e;
+            stands = given-after s n (t .stands) (sideOf side) f;
             same = same-table;
             laid = laid-on;
-            counted = c;
+            counted = cost′ ∙ ap (crossings (tableOf s₀)) (sym layouts);
             one = o .0;
             within = omega arith;
             rest =
@@ -126,30 +129,31 @@ module _ (s₀ : List ℕ) (n : ℕ) (g₀ : Given s₀ n) where
                 ∙ ap₂ (λ x L. plus (turns + 1) (go C F k x L)) (sym (o .1)) (sym layouts);
           }
 
-      pub turning-stop : last ≤ last′ → Turned s₀ (onward s₀ allowance) last′ (turns + 1) 1 s′
+      pub turning-stop : before ≤ last′ → Turned s₀ (onward s₀ allowance) last′ (turns + 1) 1 s′
       turning-stop h =
           let C = crossings (tableOf s₀) in
           let F = free (tableOf s₀) in
           let k = allowance - (turns + 1) in
           let none : C (layoutsOf s) ≤ C (F (sideOf side) (layoutsOf s)) = omega (arith, cost, cost′) in
-          let f =
+          let end =
           t .rest
           ∙ ap (λ m. plus turns (go C F m (sideOf side) (layoutsOf s))) left-over
           ∙ ap (plus turns) (go-stop C F k (sideOf side) (layoutsOf s) none) in
           record {
-            last-count = rw (ap (λ x. x .last) f) (sym cost′);
-            taken = sym (ap (λ x. x .turns) f);
-            ended = rw (ap (λ x. x .settled) f) refl;
-            leaves = rw (ap (λ x. x .last) f, ← layouts) (sym laid-on);
+            last-count = rw (ap (λ x. x .last) end) cost′;
+            taken = sym (ap (λ x. x .turns) end);
+            ended = rw (ap (λ x. x .settled) end) refl;
+            leaves = rw (ap (λ x. x .last) end, ← layouts) (sym laid-on);
           }
 
 -- the first turn, and then the others
-pub first-turn : (s₀ : List ℕ) (n : ℕ) → Given s₀ n → (allowance : ℕ) → 1 ≤ allowance → {last turns settled : ℕ} {s s′ : List ℕ} →
-    s ≡ relaid s₀ (free (tableOf s₀) left (layoutsOf s₀)) → Turned s (onward s allowance) last turns settled s′ →
+pub first-turn : (s₀ : List ℕ) (n : ℕ) → Given s₀ n → (allowance : ℕ) → 1 ≤ allowance → {before after last turns settled : ℕ}
+    {s s′ : List ℕ} → SideFreed s₀ left before after s → Turned s (onward s allowance) last turns settled s′ →
     Turned s₀ (ranTo s₀ allowance) last turns settled s′
 unfolding run
-first-turn s₀ n g zero p e t = absurd (omega arith)
-first-turn s₀ n g (suc k) p {s = s} e t =
+first-turn s₀ n g zero p f t = absurd (omega arith)
+first-turn s₀ n g (suc k) p {s = s} f t =
+    let e = f .leaves in
     let layouts = ap layoutsOf e ∙ freed-layouts s₀ n g left in
     let table = ap tableOf e ∙ freed-table s₀ n g left in
     let turns : suc k - 1 ≡ k = omega arith in

@@ -1,20 +1,20 @@
--- A record with a side freed: what its far places decide, and that it is accepted again.
+-- A record with a side freed: what its far places decide, that their sums are the counts, and that it is accepted again.
 use Prim.Native.Nat.{ℕ, _-_, _≤_}
-use mathlib.Core.Path.{_≡_, refl, sym, _∙_}
+use mathlib.Core.Path.{_≡_, refl, sym, ap, ap₂, _∙_}
 use mathlib.Core.Bool.{true}
 use mathlib.Core.List.{List, Permᴰ·symm}
 use borrow.Author.Tests.{leb-true, le-leb}
 use lib.Dec.{leb}
 use lib.ListN.{length}
-use Rattle.tanglegram.specs.Lists.{Each, range}
-use Rattle.tanglegram.specs.Tree.{leaves}
-use Rattle.tanglegram.specs.Crossings.{inverted}
+use Rattle.tanglegram.specs.Lists.{Each}
+use Rattle.tanglegram.specs.Tree.{Tree, leaves}
+use Rattle.tanglegram.specs.Crossings.{inverted, cost}
 use Rattle.tanglegram.specs.Run.{Side, left, right}
-use Rattle.tanglegram.specs.Table.{Layouts, layout, seen, free}
+use Rattle.tanglegram.specs.Table.{Layouts, layout, put, seen, free}
 use Rattle.tanglegram.proofs.Lists.{each-map, each-perm}
 use Rattle.tanglegram.specs.Freeing.{freed}
-use Rattle.tanglegram.proofs.Table.{Fair}
-use Rattle.tanglegram.proofs.Freeing.{length-freed, freed-bytes, freed-cong}
+use Rattle.tanglegram.proofs.Table.{Fair, count-own, count-put}
+use Rattle.tanglegram.proofs.Freeing.{length-freed, freed-bytes, freed-cong, cost-cong}
 use Rattle.format.specs.Fields.{sizeOf, parts}
 use Rattle.format.specs.Refusals.{isLayout}
 use Rattle.format.specs.Meaning.{tableOf, layoutsOf, relaid}
@@ -24,7 +24,9 @@ use Rattle.format.proofs.Meaning.{layouts-of-relaid, relaid-again}
 use Rattle.format.proofs.Contents.{GoodParts}
 use Rattle.format.proofs.Tests.{all-each, each-all}
 use Rattle.leaf_arrays.specs.Arrays.{at, Holds}
+use Rattle.freeing.specs.Row.{RowsFreed}
 use Rattle.standing.specs.Sides.{Given, farPlace}
+use Rattle.table.specs.Calls.{SideFreed}
 use Rattle.standing.proofs.AsItStands.{side-leaves, given-size}
 
 module _ (s : List ℕ) (n : ℕ) (g : Given s n) where
@@ -32,24 +34,52 @@ module _ (s : List ℕ) (n : ℕ) (g : Given s n) where
   says = sym (g .sized .says)
 
   -- what a side sees is what its far places say
-  pub freed-held : (side : Side) (far lay : List ℕ) → Holds n far (farPlace s side) →
-      freed (inverted (at far)) (tableOf s .tree side) lay ≡ freed (seen (tableOf s) (layoutsOf s) side) (tableOf s .tree side) lay
-  freed-held side far lay h = go side h
-    where
-      Held : Side → ℕ → Type 0
-      Held x a = at far a ≡ farPlace s x a
+  module _ (side : Side) (far : List ℕ) (h : Holds n far (farPlace s side)) where
+    abbrev Held : ℕ → Type 0
+    Held a = at far a ≡ farPlace s side a
 
-      leaves-held : (x : Side) → Each (Held x) (range 1 n) → Each (Held x) (leaves (tableOf s .tree x))
-      leaves-held x p = each-perm (Held x) (Permᴰ·symm (side-leaves s n g x)) p
+    abbrev tree : Tree
+    tree = tableOf s .tree side
 
-      go : (x : Side) → Holds n far (farPlace s x) →
-          freed (inverted (at far)) (tableOf s .tree x) lay ≡ freed (seen (tableOf s) (layoutsOf s) x) (tableOf s .tree x) lay
-      go left h =
-          freed-cong (inverted (at far)) (seen (tableOf s) (layoutsOf s) left) (Held left) (tableOf s .tree left) lay
-          (λ a b p q. rw (p, q) refl) (leaves-held left (h .each))
-      go right h =
-          freed-cong (inverted (at far)) (seen (tableOf s) (layoutsOf s) right) (Held right) (tableOf s .tree right) lay
-          (λ a b p q. rw (p, q) refl) (leaves-held right (h .each))
+    abbrev now : List ℕ
+    now = layout (layoutsOf s) side
+
+    abbrev sees : ℕ → ℕ → ℕ
+    sees = seen (tableOf s) (layoutsOf s) side
+
+    leaves-held : Each Held (leaves tree)
+    leaves-held = each-perm Held (Permᴰ·symm (side-leaves s n g side)) (h .each)
+
+    same-weight : (a b : ℕ) → Held a → Held b → inverted (at far) a b ≡ sees a b
+    same-weight = go side
+      where
+        go : (x : Side) (a b : ℕ) → at far a ≡ farPlace s x a → at far b ≡ farPlace s x b →
+            inverted (at far) a b ≡ seen (tableOf s) (layoutsOf s) x a b
+        go left a b p q = rw (p, q) refl
+        go right a b p q = rw (p, q) refl
+
+    cost-held : (lay : List ℕ) → cost (inverted (at far)) lay tree ≡ cost sees lay tree
+    cost-held lay = cost-cong (inverted (at far)) sees Held tree lay same-weight leaves-held
+
+    freed-held : freed (inverted (at far)) tree now ≡ freed sees tree now
+    freed-held = freed-cong (inverted (at far)) sees Held tree now same-weight leaves-held
+
+    fair : Fair (tableOf s)
+    fair = accepted-fair s (g .accepted)
+
+    -- so the sums of the rows' own crossings by them are the counts
+    pub side-freed : {t : Tree} {old new s′ : List ℕ} {before after : ℕ} → t ≡ tree → old ≡ now →
+        RowsFreed (inverted (at far)) t old new before after → s′ ≡ relaid s (put side new (layoutsOf s)) →
+        SideFreed s side before after s′
+    side-freed e o f r = record {
+      counted = f .counted ∙ ap₂ (cost (inverted (at far))) o e ∙ cost-held now ∙ sym (count-own (tableOf s) fair side (layoutsOf s));
+      recounted =
+          f .recounted ∙ ap₂ (λ l t. cost (inverted (at far)) (freed (inverted (at far)) t l) t) o e
+          ∙ ap (λ l. cost (inverted (at far)) l tree) freed-held ∙ cost-held (freed sees tree now)
+          ∙ sym (count-put (tableOf s) fair side (freed sees tree now) (layoutsOf s));
+      leaves =
+          r ∙ ap (λ l. relaid s (put side l (layoutsOf s))) (f .leaves ∙ ap₂ (freed (inverted (at far))) e o ∙ freed-held);
+    }
 
   -- ---- freeing keeps a record accepted
 
@@ -104,7 +134,8 @@ module _ (s : List ℕ) (n : ℕ) (g : Given s n) where
     freed-table = table-relaid s (accepted-sized s (g .accepted)) (free (tableOf s) side (layoutsOf s)) (freed-long .0) (freed-long .1)
 
     pub freed-layouts : layoutsOf (relaid s (free (tableOf s) side (layoutsOf s))) ≡ free (tableOf s) side (layoutsOf s)
-    freed-layouts = layouts-of-relaid s (accepted-sized s (g .accepted)) (free (tableOf s) side (layoutsOf s)) (freed-long .0) (freed-long .1)
+    freed-layouts =
+        layouts-of-relaid s (accepted-sized s (g .accepted)) (free (tableOf s) side (layoutsOf s)) (freed-long .0) (freed-long .1)
 
     pub freed-again : (newer : Layouts) → relaid (relaid s (free (tableOf s) side (layoutsOf s))) newer ≡ relaid s newer
     freed-again = relaid-again s (accepted-sized s (g .accepted)) (free (tableOf s) side (layoutsOf s)) (freed-long .0) (freed-long .1)

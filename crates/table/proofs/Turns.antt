@@ -1,13 +1,13 @@
 -- Freeing a side and running, as calls: their refusals test by test, and from what they found to their statements.
 use Prim.Native.Nat.{ℕ, zero, suc, _≤_, _<_}
-use mathlib.Core.Path.{_≡_, refl, sym, ap, _∙_, subst}
+use mathlib.Core.Path.{_≡_, refl, sym, ap, ap₂, _∙_, subst}
 use mathlib.Core.Logic.{_≢_}
 use mathlib.Core.Bool.{true, false, true≢false}
 use mathlib.Core.List.{List}
 use native.Mathlib.Omega.{arith}
 use borrow.Author.Tests.{eq-eqb, ne-eqb, lt-ltb, le-ltb}
 use Rattle.tanglegram.specs.Run.{Side, left, right}
-use Rattle.tanglegram.specs.Table.{crossings, free}
+use Rattle.tanglegram.specs.Table.{crossings}
 use Rattle.format.specs.Fields.{holdOf}
 use Rattle.format.specs.Refusals.{refusal}
 use Rattle.format.specs.Meaning.{tableOf, layoutsOf, relaid}
@@ -16,7 +16,7 @@ use Rattle.format.proofs.Heading.{none-first, not-no}
 use Rattle.standing.specs.Sides.{isSide, sideOf, holds, Given}
 use Rattle.table.specs.Refusals.{freeing, noAllowance, running}
 use Rattle.standing.specs.Shown.{shownCount}
-use Rattle.table.specs.Calls.{freedLayouts, Frees, ranTo, Turned, Runs}
+use Rattle.table.specs.Calls.{freedLayouts, SideFreed, Frees, ranTo, Turned, Runs}
 use Rattle.table.proofs.Freed.{freed-given, freed-table, freed-layouts}
 
 -- ---- the refusals
@@ -49,7 +49,8 @@ module _ (s : List ℕ) (side : ℕ) where
       let v = none-first (holds (holdOf s) (sideOf side)) 11 0 (omega arith) (u .1) in
       (not-no _ (t .0), u .0, v .0)
 
-  pub free-refused : {k : ℕ} → k ≡ freeing s side → k ≢ 0 → Frees s side (record { refusal = record { number = k }; before = 0; after = 0 }) s
+  pub free-refused : {k : ℕ} → k ≡ freeing s side → k ≢ 0 →
+      Frees s side (record { refusal = record { number = k }; before = 0; after = 0 }) s
   free-refused {k} e h = record { answers = rw (← e, ne-eqb k 0 h) refl; leaves = rw (← e, ne-eqb k 0 h) refl }
 
   -- the count of a record whose side was freed
@@ -58,15 +59,19 @@ module _ (s : List ℕ) (side : ℕ) where
       ap (λ T. crossings T (layoutsOf (relaid s (freedLayouts s side)))) (freed-table s n g (sideOf side))
       ∙ ap (crossings (tableOf s)) (freed-layouts s n g (sideOf side))
 
-  pub free-accepted : {n b a : ℕ} {s′ : List ℕ} → Given s n → freeing s side ≡ 0 → b ≡ shownCount s →
-      s′ ≡ relaid s (freedLayouts s side) → a ≡ shownCount s′ →
+  pub free-accepted : {b a : ℕ} {s′ : List ℕ} → freeing s side ≡ 0 → SideFreed s (sideOf side) b a s′ →
       Frees s side (record { refusal = record { number = 0 }; before = b; after = a }) s′
-  free-accepted g z p e q = record { answers = rw (z, p, q ∙ ap shownCount e ∙ freed-count g) refl; leaves = e ∙ rw z refl }
+  free-accepted z f = record { answers = rw (z, f .counted, f .recounted) refl; leaves = f .leaves ∙ rw z refl }
 
--- a record is given again after a side was freed
-pub given-after : (s : List ℕ) (n : ℕ) → Given s n → (side : Side) {s′ : List ℕ} → s′ ≡ relaid s (free (tableOf s) side (layoutsOf s)) →
-    Given s′ n
-given-after s n g side e = subst (λ r. Given r n) (sym e) (freed-given s n g side)
+-- a record is given again after a side was freed, and shows the count after
+module _ (s : List ℕ) (n : ℕ) (g : Given s n) (side : Side) {before after : ℕ} {s′ : List ℕ} (f : SideFreed s side before after s′) where
+  pub given-after : Given s′ n
+  given-after = subst (λ r. Given r n) (sym (f .leaves)) (freed-given s n g side)
+
+  pub shown-after : after ≡ shownCount s′
+  shown-after =
+      f .recounted
+      ∙ sym (ap₂ crossings (ap tableOf (f .leaves) ∙ freed-table s n g side) (ap layoutsOf (f .leaves) ∙ freed-layouts s n g side))
 
 -- ---- a run's refusals
 

@@ -4,7 +4,7 @@ use mathlib.Core.Path.{_≡_}
 use mathlib.Core.Bool.{cond}
 use mathlib.Core.List.{List}
 use Rattle.tanglegram.specs.Lists.{bit}
-use Rattle.tanglegram.specs.Run.{right, End, more, go, run}
+use Rattle.tanglegram.specs.Run.{Side, right, End, more, go, run}
 use Rattle.tanglegram.specs.Table.{Layouts, crossings, free}
 use Rattle.record.specs.Calls.{refused, accepted, orZero}
 use Rattle.format.specs.Meaning.{tableOf, layoutsOf, relaid}
@@ -15,6 +15,12 @@ use Rattle.table.specs.declared.answers.Ran.{Ran}
 use Rattle.table.specs.Refusals.{freeing, running}
 
 -- ---- free
+
+-- A side of s freed: the counts before and after, and the record afterwards.
+pub record SideFreed (s : List ℕ) (side : Side) (before after : ℕ) (s′ : List ℕ) : Type 0 where
+  pub counted : before ≡ shownCount s
+  pub recounted : after ≡ crossings (tableOf s) (free (tableOf s) side (layoutsOf s))
+  pub leaves : s′ ≡ relaid s (free (tableOf s) side (layoutsOf s))
 
 -- The layouts after freeing a side.
 abbrev pub freedLayouts : List ℕ → ℕ → Layouts

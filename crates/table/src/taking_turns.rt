@@ -2,31 +2,29 @@
 ghost use mathlib.Core.Bool.{true};
 ghost use mathlib.Core.Path.{_≡_};
 ghost use Prim.Native.Nat.{_≤_};
-ghost use Rattle.format.specs.Meaning.{layoutsOf, relaid, tableOf};
-ghost use Rattle.table.specs.Calls.{Frees, onward, ranTo, Runs, Turned};
+ghost use Rattle.table.specs.Calls.{Frees, onward, Runs, SideFreed, Turned};
 ghost use Rattle.table.specs.Refusals.{freeing, running};
+ghost use Rattle.standing.specs.Shown.{shownCount};
 ghost use Rattle.standing.specs.Sides.{Given, isSide, sideOf};
-ghost use Rattle.tanglegram.specs.Table.{free as freedBy};
 use crate::answers::Freed;
 use crate::answers::Ran;
 use format::refusal::ALLOWANCE;
 use format::refusal::HELD;
 use format::refusal::Refusal;
 use format::refusal::SIDE;
-use standing::crossings_seen;
+use freeing::Sums;
 use standing::far_places;
 use standing::is_held;
 use standing::is_side;
 use standing::layout_at;
 use standing::rows_at;
 
-// Frees a side: its layout bytes in the record, and no other byte.
-pub fn free_side(s: &mut [u8], n: u16, side: u16)
+// Frees a side: its layout bytes in the record, and no other byte. Answers the counts before and after, which are the
+// sums of the side's own crossings.
+pub fn free_side(s: &mut [u8], n: u16, side: u16) -> Sums
     requires { ⌜ Given (now s) n ⌝ }
     requires { ⌜ isSide side ≡ true ⌝ }
-    ensures { λ _. ⌜
-        now (s .exit) ≡ relaid (now (s .entry)) (freedBy (tableOf (now (s .entry))) (sideOf side) (layoutsOf (now (s .entry))))
-        ⌝ }
+    ensures { λ r. ⌜ SideFreed (now (s .entry)) (sideOf side) (r .before) (r .after) (now (s .exit)) ⌝ }
 {
     let mut far = [0u16; 512];
     far_places(s, n, side, &mut far);
@@ -34,7 +32,7 @@ pub fn free_side(s: &mut [u8], n: u16, side: u16)
     format::fill_table(s, rows_at(n, side), n, &mut tab);
     let from = layout_at(n, side);
     let to = from + (n as usize - 1);
-    freeing::free_rows(&tab, &far, &mut s[from..to]);
+    freeing::free_rows(&tab, &far, &mut s[from..to])
 }
 
 // The refusal of freeing a side, or 0.
@@ -68,12 +66,11 @@ pub fn free(s: &mut [u8], side: u16) -> Freed
         };
     }
     let n = record::size_of(s);
-    let before = crossings_seen(s, n);
-    free_side(s, n, side);
+    let turn = free_side(s, n, side);
     Freed {
         refusal: Refusal { number: 0 },
-        before: before,
-        after: crossings_seen(s, n),
+        before: turn.before,
+        after: turn.after,
     }
 }
 
@@ -84,23 +81,23 @@ struct Turns {
     settled: u32,
 }
 
-// Takes the turns after the first, the right next, until one gains nothing or the allowance is used up.
-fn go_on(s: &mut [u8], n: u16, allowance: u32) -> Turns
+// Takes the turns after the first, whose count is given, the right next, until one gains nothing or the allowance is
+// used up.
+fn go_on(s: &mut [u8], n: u16, count: u32, allowance: u32) -> Turns
     requires { ⌜ Given (now s) n ⌝ }
-    requires { ⌜ 1 ≤ allowance ⌝ }
+    requires { ⌜ (count ≡ shownCount (now s)) × (1 ≤ allowance) ⌝ }
     ensures { λ r. ⌜
         Turned (now (s .entry)) (onward (now (s .entry)) allowance) (r .last) (r .turns) (r .settled) (now (s .exit))
         ⌝ }
 {
-    let mut last = crossings_seen(s, n);
+    let mut last = count;
     let mut turns: u32 = 1;
     let mut side: u16 = 2;
     while turns < allowance {
-        let before = last;
-        free_side(s, n, side);
-        last = crossings_seen(s, n);
+        let turn = free_side(s, n, side);
+        last = turn.after;
         turns += 1;
-        if before <= last {
+        if turn.before <= last {
             return Turns {
                 last: last,
                 turns: turns,
@@ -114,18 +111,6 @@ fn go_on(s: &mut [u8], n: u16, allowance: u32) -> Turns
         turns: turns,
         settled: 0,
     }
-}
-
-// Takes turns, the left first.
-fn take_turns(s: &mut [u8], n: u16, allowance: u32) -> Turns
-    requires { ⌜ Given (now s) n ⌝ }
-    requires { ⌜ 1 ≤ allowance ⌝ }
-    ensures { λ r. ⌜
-        Turned (now (s .entry)) (ranTo (now (s .entry)) allowance) (r .last) (r .turns) (r .settled) (now (s .exit))
-        ⌝ }
-{
-    free_side(s, n, 1);
-    go_on(s, n, allowance)
 }
 
 // The refusal of a run, or 0.
@@ -151,8 +136,8 @@ fn running_number(s: &[u8], allowance: u32) -> u16
     0
 }
 
-// Runs any bytes under an allowance: the first and the last count, the turns taken, whether it settled, and the layout
-// bytes after exactly that many freeings; or the refusal, and no byte.
+// Runs any bytes under an allowance, the left first: the first and the last count, the turns taken, whether it settled,
+// and the layout bytes after exactly that many freeings; or the refusal, and no byte.
 pub fn run(s: &mut [u8], allowance: u32) -> Ran
     ensures { λ r. ⌜ Runs (now (s .entry)) allowance r (now (s .exit)) ⌝ }
 {
@@ -167,13 +152,13 @@ pub fn run(s: &mut [u8], allowance: u32) -> Ran
         };
     }
     let n = record::size_of(s);
-    let first = crossings_seen(s, n);
-    let t = take_turns(s, n, allowance);
+    let turn = free_side(s, n, 1);
+    let rest = go_on(s, n, turn.after, allowance);
     Ran {
         refusal: Refusal { number: 0 },
-        first: first,
-        last: t.last,
-        turns: t.turns,
-        settled: t.settled,
+        first: turn.before,
+        last: rest.last,
+        turns: rest.turns,
+        settled: rest.settled,
     }
 }

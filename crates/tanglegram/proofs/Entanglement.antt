@@ -5,7 +5,7 @@ use Prim.Native.Nat.{ℕ, zero, suc, pred, _+_, _-_, _*_, _≤_}
 use mathlib.Core.Path.{_≡_, refl, sym, ap, ap₂, _∙_}
 use mathlib.Core.Logic.{_≢_}
 use mathlib.Core.List.{List, [], _∷_, map, map-map, reverse, reverseAux, Permᴰ·refl, Permᴰ·symm, Permᴰ·map}
-use mathlib.Core.List.{List·Permᴰ, List·Permᴰ·nil, List·Permᴰ·cons, List·Permᴰ·swap, List·Permᴰ·trans}
+use mathlib.Core.List.{List·Permᴰ, List·Permᴰ·trans}
 use native.Mathlib.Nat.{zero-add, mul-add, add-mul, mul-comm, mul-suc, suc-mul, mul-le-mul}
 use native.Mathlib.Decide.{decLe}
 use native.Mathlib.Omega.{arith}
@@ -14,6 +14,7 @@ use Rattle.tanglegram.specs.Lists.{Each, Distinct, range, place}
 use Rattle.tanglegram.specs.Crossings.{to, end}
 use Rattle.tanglegram.specs.Entanglement.{squared, sum, displacement, worst}
 use Rattle.tanglegram.proofs.Lists.{each-map, each-zip, each-perm, all-distinct, all-length, range-snoc, place-head, place-tail}
+use Rattle.tanglegram.proofs.ListSums.{sum-ext, sum-perm}
 
 -- ---- squares of differences
 
@@ -53,20 +54,6 @@ sum-split m L R (a ∷ xs) =
     let x = L a in
     let y = R a in
     omega (arith, squared-expand x y, squared-sum x y m, squared-sum x x m, squared-sum y y m, sum-split m L R xs)
-
--- equal entry by entry, equal in sum
-sum-ext : (f g : ℕ → ℕ) (xs : List ℕ) → Each (λ x. f x ≡ g x) xs → sum f xs ≡ sum g xs
-unfolding sum
-sum-ext f g [] e = refl
-sum-ext f g (x ∷ xs) e = ap₂ _+_ (e .0) (sum-ext f g xs (e .1))
-
--- a sum does not ask for the order
-sum-perm : (f : ℕ → ℕ) {xs ys : List ℕ} → List·Permᴰ xs ys → sum f xs ≡ sum f ys
-unfolding sum
-sum-perm f List·Permᴰ·nil = refl
-sum-perm f (List·Permᴰ·cons e d) = ap₂ _+_ (ap f e) (sum-perm f d)
-sum-perm f (List·Permᴰ·swap e g) = omega (arith, ap f e, ap f g)
-sum-perm f (List·Permᴰ·trans d e) = sum-perm f d ∙ sum-perm f e
 
 -- the sum over a list's images
 sum-map : (f g : ℕ → ℕ) (xs : List ℕ) → sum f (map g xs) ≡ sum (λ x. f (g x)) xs

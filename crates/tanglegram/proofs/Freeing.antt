@@ -19,6 +19,7 @@ use Rattle.tanglegram.proofs.Lists.{each-map, each-at, each-append, eac
 use Rattle.tanglegram.proofs.Lists.{range-each}
 use Rattle.tanglegram.proofs.Tree.{eachRow-map, eachRow-rows, each-under}
 use Rattle.tanglegram.proofs.Sums.{across-ext}
+use Rattle.tanglegram.proofs.Totals.{total-ext}
 use Rattle.tanglegram.proofs.Write.{length-write, write-cong, write-written, write-same, written-cong, written-rows}
 
 -- ---- one row: its own crossings a as given and b turned over, its byte x
@@ -128,18 +129,26 @@ pub length-freed : (w : ℕ → ℕ → ℕ) (t : Tree) (lay : List ℕ) → len
 unfolding freed
 length-freed w t lay = length-write (chooseAt w lay) t lay
 
--- freeing asks for the weight only at the tree's leaves
-pub freed-cong : (w w′ : ℕ → ℕ → ℕ) (P : ℕ → Type 0) (t : Tree) (lay : List ℕ) → ((a b : ℕ) → P a → P b → w a b ≡ w′ a b) →
-    Each P (leaves t) → freed w t lay ≡ freed w′ t lay
-unfolding freed
-freed-cong w w′ P t lay e p =
-    write-cong (chooseAt w lay) (chooseAt w′ lay) t lay
-    (eachRow-map t
-    (λ i u l h. ap₂ (λ a b. choose a b (byte lay i)) (same u l (h .0) (h .1)) (same l u (h .1) (h .0)))
-    (each-under P t p))
-  where
-    same : (u l : Tree) → Each P (leaves u) → Each P (leaves l) → between w u l ≡ between w′ u l
-    same u l x y = across-ext w w′ (leaves u) (leaves l) (each-map (leaves u) (λ a p. each-map (leaves l) (λ b q. e a b p q) y) x)
+-- two weights that are equal at the tree's leaves: the same crossings, and so the same sum of own crossings and the same freed layout
+module _ (w w′ : ℕ → ℕ → ℕ) (P : ℕ → Type 0) (t : Tree) (lay : List ℕ) (e : (a b : ℕ) → P a → P b → w a b ≡ w′ a b)
+    (p : Each P (leaves t)) where
+  between-cong : (u l : Tree) → Each P (leaves u) → Each P (leaves l) → between w u l ≡ between w′ u l
+  between-cong u l x y =
+      across-ext w w′ (leaves u) (leaves l) (each-map (leaves u) (λ a q. each-map (leaves l) (λ b r. e a b q r) y) x)
+
+  same-rows : (f : ℕ → ℕ → ℕ → ℕ) → EachRow (λ i u l. f (between w u l) (between w l u) (byte lay i) ≡
+      f (between w′ u l) (between w′ l u) (byte lay i)) t
+  same-rows f =
+      eachRow-map t (λ i u l h. ap₂ (λ a b. f a b (byte lay i)) (between-cong u l (h .0) (h .1)) (between-cong l u (h .1) (h .0)))
+      (each-under P t p)
+
+  pub cost-cong : cost w lay t ≡ cost w′ lay t
+  unfolding cost
+  cost-cong = total-ext (ownAt w lay) (ownAt w′ lay) t (same-rows own)
+
+  pub freed-cong : freed w t lay ≡ freed w′ t lay
+  unfolding freed
+  freed-cong = write-cong (chooseAt w lay) (chooseAt w′ lay) t lay (same-rows choose)
 
 module _ (w : ℕ → ℕ → ℕ) (t : Tree) (m : ℕ) (r : List·Permᴰ (rows t) (range 1 m)) (lay : List ℕ) (e : length lay ≡ m) where
   pub freed-chosen : EachRow (λ i u l. byte (freed w t lay) i ≡ chooseAt w lay i u l) t

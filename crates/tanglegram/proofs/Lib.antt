@@ -4,6 +4,8 @@ pub mod Write
 pub mod Order
 pub mod Compatible
 pub mod Sums
+pub mod ListSums
+pub mod Totals
 pub mod Crossings
 pub mod Freeing
 pub mod Run
@@ -11,4 +13,3 @@ pub mod Entanglement
 pub mod Turning
 pub mod Table
 pub mod Bench
-pub mod ListSums

@@ -56,7 +56,7 @@ module _ (T : Table) (F : Fair T) where
       ∙ pairs-cost (seen T s right) (s .right-bytes) (T .tree right)
 
   -- of any layout put on one side, in what that side sees now
-  count-put : (side : Side) (any : List ℕ) (s : Layouts) → crossings T (put side any s) ≡ cost (seen T s side) any (T .tree side)
+  pub count-put : (side : Side) (any : List ℕ) (s : Layouts) → crossings T (put side any s) ≡ cost (seen T s side) any (T .tree side)
   count-put left any s = count-own left (put left any s)
   count-put right any s = count-own right (put right any s)
 

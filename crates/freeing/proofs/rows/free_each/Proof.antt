@@ -1,7 +1,7 @@
 -- `rows::free_each` meets its contract. The loop's invariant: the rows before `row` have their byte after freeing, the others their old
 -- one, and for the objects below n + row it is noted where the far places under them stand.
-use Prim.Native.Nat.{ℕ, _+_, _-_, _≤_, _<_}
-use mathlib.Core.Path.{_≡_, refl, ap, _∙_, subst}
+use Prim.Native.Nat.{ℕ, _+_, _-_, _*_, _≤_, _<_}
+use mathlib.Core.Path.{_≡_, refl, ap, _∙_}
 use mathlib.Core.List.{List, map}
 use native.Mathlib.Omega.{arith}
 use borrow.Author.Needs.{needs}
@@ -11,18 +11,18 @@ use Rattle.tanglegram.specs.Lists.{place}
 use Rattle.tanglegram.specs.Tree.{leaves}
 use Rattle.trees.specs.Rows.{size, treeOf}
 use Rattle.leaf_arrays.specs.Arrays.{at}
-use Rattle.freeing.proofs.Counted.{Noted, Parts, noted-leaves, noted-more, parts, first-below, second-below}
+use Rattle.freeing.proofs.Counted.{Noted, Parts, own-counted, noted-leaves, noted-more, parts, first-below, second-below}
 use Rattle.freeing.proofs.Seen.{order-long, order-first, order-leaves, seen-long, seen-first}
-use Rattle.freeing.proofs.Freed.{FreedTo, freed-none, freed-more, freed-all}
+use Rattle.freeing.proofs.Freed.{FreedTo, Own, freed-none, freed-more, freed-all}
 use Rattle.freeing.proofs.rows.free_each.Statement.{statement}
 use Rattle.freeing.proofs.rows.free_each.Tie as tie
 
 abbrev Inv-loop : tie.InvT-loop
-Inv-loop walked far lay₀ n seen from₀ many₀ row₀ lay from many row =
-    FreedTo (inverted (at far)) walked lay₀ lay row × Noted far walked seen from many (size walked + row)
+Inv-loop walked far lay₀ n seen from₀ many₀ before₀ after₀ row₀ lay from many before after row =
+    FreedTo (inverted (at far)) walked lay₀ lay row before after × Noted far walked seen from many (size walked + row)
 
 abbrev μ-loop : tie.MeasureT-loop
-μ-loop walked far lay₀ n seen from₀ many₀ row₀ lay from many row = size walked - row
+μ-loop walked far lay₀ n seen from₀ many₀ before₀ after₀ row₀ lay from many before after row = size walked - row
 
 -- ---- before the loop
 
@@ -95,6 +95,18 @@ parts-here c =
     parts (s .args .walked .now) (s .pre .0) (s .args .far .now) (s .pre .1 .1) (seenIn (l .before)) (seen-long-here (l .before))
     (seen-first-here (l .before)) (l .loop .from) (l .loop .many) (l .loop .row) (l .loop .inv .0 .from) (row-below c) (l .loop .inv .1)
     (c .before .before .wide .result) (c .wide2 .result) (c .before .before .wide .ensures) (c .wide2 .ensures)
+
+-- ---- its own crossings, as it stands and turned over
+
+own-here : (c : tie.After-own-crossings Inv-loop μ-loop) →
+    let w = c .before .before in
+    let l = atLoop w in
+    let a = startOf l .args in
+    let first = getD (l .loop .many) (w .before .before .wide .result) 0 in
+    let second = getD (l .loop .many) (w .wide2 .result) 0 in
+    Own (inverted (at (a .far .now))) (a .walked .now) (l .loop .row) (c .own-crossings .result)
+    (first * second - c .own-crossings .result)
+own-here c = own-counted (parts-here (c .before .before)) (c .own-crossings .ensures)
 
 -- ---- the needs
 
@@ -186,21 +198,33 @@ mul-second c = omega (arith, second-index c)
 array-read-second : tie.Need-array-read-second Inv-loop μ-loop
 array-read-second c = second-index c
 
-cast-gains : tie.Need-cast-gains Inv-loop μ-loop
-cast-gains c = let most = startOf (atLoop (c .before)) .pre .0 .most in omega (arith, parts-here (c .before) .fits)
+cast-own-crossings : tie.Need-cast-own-crossings Inv-loop μ-loop
+cast-own-crossings c = let most = startOf (atLoop (c .before)) .pre .0 .most in omega (arith, parts-here (c .before) .fits)
 
-cast-gains-2 : tie.Need-cast-gains-2 Inv-loop μ-loop
-cast-gains-2 c = let most = startOf (atLoop (c .before)) .pre .0 .most in omega (arith, parts-here (c .before) .fits)
+cast-own-crossings-2 : tie.Need-cast-own-crossings-2 Inv-loop μ-loop
+cast-own-crossings-2 c = let most = startOf (atLoop (c .before)) .pre .0 .most in omega (arith, parts-here (c .before) .fits)
 
-cast-gains-3 : tie.Need-cast-gains-3 Inv-loop μ-loop
-cast-gains-3 c = let most = startOf (atLoop (c .before)) .pre .0 .most in omega (arith, parts-here (c .before) .fits)
+cast-own-crossings-3 : tie.Need-cast-own-crossings-3 Inv-loop μ-loop
+cast-own-crossings-3 c = let most = startOf (atLoop (c .before)) .pre .0 .most in omega (arith, parts-here (c .before) .fits)
 
-gains-requires : tie.Need-gains-requires Inv-loop μ-loop
-gains-requires c κs =
+own-crossings-requires : tie.Need-own-crossings-requires Inv-loop μ-loop
+own-crossings-requires c κs =
     let p = parts-here (c .before) in
     let most = startOf (atLoop (c .before)) .pre .0 .most in
     let long = seen-long-here (atLoop (c .before) .before) in
     ((omega (arith, p .fits), long), p .both-ways)
+
+cast-other : tie.Need-cast-other Inv-loop μ-loop
+cast-other c = let most = startOf (atLoop (c .before .before)) .pre .0 .most in omega (arith, parts-here (c .before .before) .fits)
+
+cast-other-2 : tie.Need-cast-other-2 Inv-loop μ-loop
+cast-other-2 c = let most = startOf (atLoop (c .before .before)) .pre .0 .most in omega (arith, parts-here (c .before .before) .fits)
+
+mul-other : tie.Need-mul-other Inv-loop μ-loop
+mul-other c = omega (arith, parts-here (c .before .before) .few)
+
+sub-other : tie.Need-sub-other Inv-loop μ-loop
+sub-other c = omega (arith, c .own-crossings .ensures, parts-here (c .before .before) .both-ways)
 
 sub-freed-byte : tie.Need-sub-freed-byte Inv-loop μ-loop
 sub-freed-byte c = search needs
@@ -217,6 +241,24 @@ sub-lay c = search needs
 slice-write-lay : tie.Need-slice-write-lay Inv-loop μ-loop
 slice-write-lay c = search needs
 
+add-before : tie.Need-add-before Inv-loop μ-loop
+add-before c =
+    let o = c .before .before in
+    let l = atLoop (o .before .before) in
+    let most = startOf l .pre .0 .most in
+    omega (arith, row-below (o .before .before), l .loop .inv .0 .before-few, own-here o .few)
+
+freed-count-requires : tie.Need-freed-count-requires Inv-loop μ-loop
+freed-count-requires c κs = search needs
+
+add-after : tie.Need-add-after Inv-loop μ-loop
+add-after c =
+    let o = c .before .before .before in
+    let l = atLoop (o .before .before) in
+    let most = startOf l .pre .0 .most in
+    let own = own-here o in
+    omega (arith, row-below (o .before .before), l .loop .inv .0 .after-few, own .few, own .few-over, c .freed-count .ensures .1)
+
 cast-from : tie.Need-cast-from Inv-loop μ-loop
 cast-from c = search needs
 
@@ -231,7 +273,7 @@ array-write-from c = search needs
 
 add-many : tie.Need-add-many Inv-loop μ-loop
 add-many c =
-    let w = c .before .before .before .before in
+    let w = c .before .before .before .before .before in
     let most = startOf (atLoop w) .pre .0 .most in
     omega (arith, parts-here w .fits)
 
@@ -255,17 +297,18 @@ loop-less c = search needs
 
 loop-again : tie.Need-loop-again Inv-loop μ-loop
 loop-again c =
-    let w = c .before .before .before .before in
+    let b = c .before in
+    let o = b .before .before in
+    let w = o .before .before in
     let l = atLoop w in
     let s = startOf l in
     let a = s .args in
-    let g = c .before .before .gains in
     let freed = freed-more (inverted (at (a .far .now))) (a .walked .now) (a .lay .now) (s .pre .1 .0) (l .loop .lay) (l .loop .row)
-    (l .loop .inv .0) (row-below w) (g .result) (subst (λ b. g .result ≡ b) (parts-here w .tells) (g .ensures)) in
+    (l .loop .before) (l .loop .after) (l .loop .inv .0) (row-below w) _ _ (own-here o) in
     let noted = noted-more (a .walked .now) (s .pre .0) (a .far .now) (s .pre .1 .1) (seenIn (l .before)) (seen-long-here (l .before))
     (seen-first-here (l .before)) (l .loop .from) (l .loop .many) (l .loop .row) (l .loop .inv .0 .from) (row-below w) (l .loop .inv .1)
     (w .before .before .wide .result) (w .wide2 .result) (w .before .before .wide .ensures) (w .wide2 .ensures) in
-    (rw (c .freed-byte .ensures) freed, noted)
+    (rw (b .freed-byte .ensures, c .freed-count .ensures .0) freed, noted)
 
 same-length : tie.Need-same-length Inv-loop μ-loop
 same-length c = search needs
@@ -276,8 +319,8 @@ returns c =
     let s = startOf l in
     let a = s .args in
     let n = l .loop .inv .0 .long in
-    freed-all (inverted (at (a .far .now))) (a .walked .now) (a .lay .now) (s .pre .1 .0) (l .loop .lay) (l .loop .row) (l .loop .inv .0)
-    (omega arith)
+    freed-all (inverted (at (a .far .now))) (a .walked .now) (a .lay .now) (s .pre .1 .0) (l .loop .lay) (l .loop .row) _ _
+    (l .loop .inv .0) (omega arith)
 
 pub free-each-spec : {M : Type 1} → statement M
 free-each-spec =
@@ -307,15 +350,22 @@ free-each-spec =
     array-read-first
     mul-second
     array-read-second
-    cast-gains
-    cast-gains-2
-    cast-gains-3
-    gains-requires
+    cast-own-crossings
+    cast-own-crossings-2
+    cast-own-crossings-3
+    own-crossings-requires
+    cast-other
+    cast-other-2
+    mul-other
+    sub-other
     sub-freed-byte
     slice-read-freed-byte
     freed-byte-requires
     sub-lay
     slice-write-lay
+    add-before
+    freed-count-requires
+    add-after
     cast-from
     add-from
     mul-from

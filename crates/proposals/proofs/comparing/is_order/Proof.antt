@@ -51,7 +51,8 @@ returns-2 c =
     let side = sideOf (z .args .side) in
     let size = filled-size _ _ g side _ _ refl _ (w .rows-at .ensures) (v .fill-table .ensures) in
     let tree = filled-tree _ _ g side _ _ refl _ (w .rows-at .ensures) (v .fill-table .ensures) in
-    told _ _ g side _ _ _ refl (u .before .before .before .before .if1 .left) (u .before .copied .ensures) _ _ size tree (c .compatible .ensures)
+    told _ _ g side _ _ _ refl (u .before .before .before .before .if1 .left) (u .before .copied .ensures) _ _ size tree
+    (c .compatible .ensures)
 
 pub is-order-spec : {M : Type 1} → statement M
 is-order-spec =

@@ -1,18 +1,13 @@
--- `free_side`: the layout bytes written are those of the side freed, and the record is relaid with them.
-use mathlib.Core.Path.{refl, sym, ap, ap₂, subst, _∙_}
+-- `free_side`: the layout bytes written are those of the side freed, the record is relaid with them, and the sums are its counts.
+use mathlib.Core.Path.{refl, sym, ap, subst}
 use native.Mathlib.Omega.{arith}
 use lib.ListN.{length}
-use Rattle.tanglegram.specs.Crossings.{inverted}
-use Rattle.tanglegram.specs.Freeing.{freed}
-use Rattle.tanglegram.specs.Table.{layout, put}
-use Rattle.leaf_arrays.specs.Arrays.{at}
 use Rattle.freeing.specs.Row.{Apart}
-use Rattle.format.specs.Meaning.{layoutsOf, relaid}
 use Rattle.standing.specs.Sides.{sideOf}
 use Rattle.standing.proofs.AsItStands.{rows-within, layout-within, part-layout, length-part, filled-good, filled-size, filled-tree}
 use Rattle.standing.proofs.Counts.{far-apart-side}
 use Rattle.standing.proofs.Relaying.{relaid-mid}
-use Rattle.table.proofs.Freed.{freed-held}
+use Rattle.table.proofs.Freed.{side-freed}
 use borrow.Author.Needs.{needs}
 use Rattle.table.proofs.taking_turns.free_side.Statement.{statement}
 use Rattle.table.proofs.taking_turns.free_side.Tie as tie
@@ -82,12 +77,9 @@ returns c =
     let z = w .before .before .before .before in
     let g = z .pre .0 in
     let side = sideOf (z .args .side) in
-    let s = z .args .s .now in
     let tree = filled-tree _ _ g side _ _ refl _ (v .before .before .before .rows-at .ensures) (v .before .fill-table .ensures) in
     let lay = part-layout _ _ g side (v .layout-at .ensures) in
-    let freed-lay =
-    u .free-rows .ensures ∙ ap₂ (freed (inverted (at (w .far-places .last .1 .1 .1 .0)))) tree lay ∙ freed-held _ _ g side _ (layout (layoutsOf s) side) (w .far-places .ensures .0) in
-    relaid-mid _ _ g side _ (v .layout-at .ensures) ∙ ap (λ l. relaid s (put side l (layoutsOf s))) freed-lay
+    side-freed _ _ g side _ (w .far-places .ensures .0) tree lay (u .free-rows .ensures) (relaid-mid _ _ g side _ (v .layout-at .ensures))
 
 pub free-side-spec : {M : Type 1} → statement M
 free-side-spec =

@@ -36,7 +36,8 @@ returns-3 : tie.Need-returns-3
 returns-3 c =
     let q = c .before .before .before in
     let p = q .before .before in
-    freeing-11 _ _ (sym (p .before .is-side .ensures) ∙ not-false _ (p .if1 .left)) (sym (q .before .refusal-number .ensures) ∙ q .if2 .left)
+    freeing-11 _ _ (sym (p .before .is-side .ensures) ∙ not-false _ (p .if1 .left))
+    (sym (q .before .refusal-number .ensures) ∙ q .if2 .left)
     (sym (c .before .is-held .ensures) ∙ c .if3 .taken)
 
 returns-4 : tie.Need-returns-4
