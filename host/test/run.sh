@@ -1,7 +1,7 @@
 #!/usr/bin/env bash
 # All host tests, after rt has proved the crates. Two groups go on at a time: the peer's own tests, then desk and sheet
 # beside the peer; and the C boundary, then the stack, code and data of the calls. What they print stays in this order.
-# Ends with 1 if one of them fails, and then prints that group's output last.
+# Then speed, by itself. Ends with 1 if one of them fails, and prints a group that failed last.
 set -euo pipefail
 cd "$(dirname "$0")/../.."
 mkdir -p target/test
@@ -35,3 +35,4 @@ for group in $failed; do
   echo "host tests: the $group group failed"
 done
 [ -z "$failed" ]
+bash host/measure/speed.sh
