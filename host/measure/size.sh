@@ -11,7 +11,7 @@ name=${1:-viewer}
 limit=65536 record=6142
 
 bash host/measure/calls.sh > target/measure/calls.txt || { cat target/measure/calls.txt; exit 1; }
-[ "$name" = gauge_calls ] || archive "$name" # calls.sh wrote that one
+[ "$name" = gauge_calls ] || archive "$name" # calls.sh made that one
 stack=$(sed -n 's/^most: \([0-9]*\) bytes of stack.*/\1/p' target/measure/calls.txt)
 
 # The sections that a linked program holds in memory: code, constants, and data that changes, of which there is none.

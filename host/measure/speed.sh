@@ -4,35 +4,18 @@
 # or less is the aim. Ends with 1 if an answer differs, or if a call takes more than twice Rust's time.
 #
 # The archive is for x86-64 and is linked there. On Arm, whose emulator's times say nothing, the same LLVM module is
-# compiled for Arm, by the kit's compiler and as the kit compiles it (-O3): a kit of links to the real one, with a
-# compiler in place of its own that keeps the module it is handed, writes the archive (target/measure/kit).
+# compiled for Arm, by the kit's compiler and as the kit compiles it (-O3).
 set -euo pipefail
 cd "$(dirname "$0")/../.."
 . host/measure/tools.sh
 work=target/measure/speed.d
 mkdir -p "$work"
 
-linked_kit() { # FOLDER: links to the kit, but for a compiler that keeps the module
-  local from=$kit to=$1 part
-  for part in . on "on/$machine" "on/$machine/toolchain" "on/$machine/toolchain/bin"; do
-    rm -f "$to/$part"
-    mkdir -p "$to/$part"
-    for file in "$from/$part"/*; do ln -sfn "$file" "$to/$part/$(basename "$file")"; done
-  done
-  compiler=$from/on/$machine/toolchain/bin/clang
-  rm "$to/on/$machine/toolchain/bin/clang"
-  printf '#!/bin/sh\ncp module.bc "%s/module.bc" || exit 1\nexec "%s" "$@"\n' "$(pwd)/$work" "$compiler" \
-    > "$to/on/$machine/toolchain/bin/clang"
-  chmod +x "$to/on/$machine/toolchain/bin/clang"
-}
-
-compiled_here() { # the module compiled for this machine, as $work/calls.o
-  rm -rf target/measure/kit
-  linked_kit target/measure/kit
-  RATTLE_HOME=$(pwd)/target/measure/kit archive gauge_calls
+compiled_here() { # the archive's module compiled for this machine, as $work/calls.o
+  local compiler=$kit/on/$machine/toolchain/bin/clang
   # As text, without what names x86-64: its layout of data, its name, and its processor.
   "$compiler" --no-default-config --target=x86_64-unknown-linux-gnu -S -emit-llvm -O3 -Xclang -disable-llvm-passes \
-    -x ir "$work/module.bc" -o "$work/module.ll"
+    -x ir target/measure/gauge_calls.bc -o "$work/module.ll"
   sed -i -e '/^target /d' -e 's/ "target-cpu"="x86-64"//' "$work/module.ll"
   "$compiler" --no-default-config "--target=$machine-unknown-linux-gnu" -ffunction-sections -fdata-sections -fPIC \
     -O3 -Werror -Wno-override-module -c -x ir "$work/module.ll" -o "$work/calls.o"
@@ -41,9 +24,10 @@ compiled_here() { # the module compiled for this machine, as $work/calls.o
 if ! { command -v gcc && command -v cargo; } > /dev/null; then
   { apt-get update && apt-get install -y --no-install-recommends gcc libc6-dev cargo; } > /dev/null
 fi
+archive gauge_calls
 case $machine in
-  x86_64) archive gauge_calls && calls=target/staticlib/libgauge_calls.a ;;
-  *) compiled_here && calls=$work/calls.o ;;
+  x86_64) calls=target/staticlib/libgauge_calls.a ;;
+  *) compiled_here; calls=$work/calls.o ;;
 esac
 gcc -O2 -Wall -Wextra -Werror -o "$work/speed" host/measure/speed.c "$calls"
 cargo build --quiet --release --manifest-path host/peer/Cargo.toml --target-dir target/peer

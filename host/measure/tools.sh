@@ -1,7 +1,7 @@
 # What the measurements share; sourced from the repository's root. After x86_tools, `tool` is the prefix of a compiler
 # and binutils for x86-64, the kind of machine the archive is for, and `emulator` runs what they make: nothing on
 # x86-64, the kit's emulator on Arm. What is missing is installed. `archive NAME` proves a library and writes its
-# archive.
+# archive; on Arm it also keeps the LLVM module that the archive is compiled from, as target/measure/NAME.bc.
 kit=$(dirname "$(dirname "$(rt doc)")")
 machine=$(uname -m)
 mkdir -p target/measure
@@ -24,8 +24,32 @@ x86_tools() {
   fi
 }
 
-archive() {
-  rt staticlib "$1" > "target/measure/$1.log" 2>&1 || { cat "target/measure/$1.log"; exit 1; }
+# A kit of links to the real one, with a compiler in place of its own that keeps the module it is handed, as FILE.
+keeping_kit() { # FOLDER FILE
+  local to=$1 part file compiler=$kit/on/$machine/toolchain/bin/clang
+  rm -rf "$to"
+  for part in . on "on/$machine" "on/$machine/toolchain" "on/$machine/toolchain/bin"; do
+    rm -f "$to/$part"
+    mkdir -p "$to/$part"
+    for file in "$kit/$part"/*; do ln -sfn "$file" "$to/$part/$(basename "$file")"; done
+  done
+  rm "$to/on/$machine/toolchain/bin/clang"
+  printf '#!/bin/sh\ncp module.bc "%s" || exit 1\nexec "%s" "$@"\n' "$2" "$compiler" \
+    > "$to/on/$machine/toolchain/bin/clang"
+  chmod +x "$to/on/$machine/toolchain/bin/clang"
+}
+
+# Where ARCHIVES names a folder, as host/test/run.sh does, an archive that was made in that run is not made again.
+archive() { # NAME
+  local home=${RATTLE_HOME:-}
+  if [ -n "${ARCHIVES:-}" ] && [ -e "$ARCHIVES/$1" ]; then return; fi
+  if [ "$machine" != x86_64 ]; then
+    home=$PWD/target/measure/kit
+    keeping_kit "$home" "$PWD/target/measure/$1.bc"
+  fi
+  RATTLE_HOME=$home rt staticlib "$1" > "target/measure/$1.log" 2>&1 ||
+    { cat "target/measure/$1.log"; exit 1; }
+  if [ -n "${ARCHIVES:-}" ]; then touch "$ARCHIVES/$1"; fi
 }
 
 # Links C files with an archive; statically, so that no call looks a function of C's up on the measured stack.

@@ -4,7 +4,9 @@
 # Then speed, by itself. Ends with 1 if one of them fails, and prints a group that failed last.
 set -euo pipefail
 cd "$(dirname "$0")/../.."
-mkdir -p target/test
+export ARCHIVES=target/test/archives
+rm -rf "$ARCHIVES"
+mkdir -p "$ARCHIVES"
 
 beside_the_peer() {
   CARGO_TARGET_DIR=target/peer cargo test --quiet --release --offline --manifest-path host/peer/Cargo.toml \
