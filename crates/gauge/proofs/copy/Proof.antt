@@ -1,4 +1,4 @@
--- `gauge::copy` meets its contract. The loop's invariant: the first i numbers are copied.
+-- `copy` meets its contract. The loop's invariant: the first i numbers are copied.
 use Prim.Native.Nat.{_+_, _-_, _≤_}
 use mathlib.Core.Path.{_≡_, sym, ap, _∙_}
 use native.Mathlib.Numerals.{add-one}

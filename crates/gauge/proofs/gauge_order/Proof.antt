@@ -1,4 +1,4 @@
--- `gauge::gauge_order` meets its contract: it refuses by the sizes or by a bad row, or else copies out the order that the layout gives.
+-- `gauge_order` meets its contract: it refuses by the sizes or by a bad row, or else copies out the order that the layout gives.
 use mathlib.Core.Path.{_≡_, refl, sym, ap, _∙_}
 use mathlib.Core.Bool.{true}
 use native.Mathlib.Omega.{arith}

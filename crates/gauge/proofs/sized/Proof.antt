@@ -1,4 +1,4 @@
--- `gauge::sized` meets its contract: each answer rewrites with the tests that led to it.
+-- `sized` meets its contract: each answer rewrites with the tests that led to it.
 use borrow.Author.Needs.{needs}
 use borrow.Author.Tests.{eq-eqb, ne-eqb, lt-ltb, le-ltb}
 use Rattle.gauge.proofs.sized.Statement.{statement}

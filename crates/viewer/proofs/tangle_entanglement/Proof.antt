@@ -1,4 +1,4 @@
--- `tangle_entanglement`: the three cases of what `table::entanglement` answers, each in C's form.
+-- `tangle_entanglement`: the three cases of what `views::entanglement` answers, each in C's form.
 use mathlib.Core.Path.{_≡_, refl, sym, ap, _∙_}
 use mathlib.Core.List.{List}
 use Prim.Native.Nat.{ℕ}

@@ -1,4 +1,4 @@
--- `viewer::tangle_hands` meets its contract: a walk of its MIR, by hand. The record is lent again for one call of `hands::hands_named`
+-- `tangle_hands` meets its contract: a walk of its MIR, by hand. The record is lent again for one call of `hands::hands_named`
 -- and comes back as that leaves it; the refusal's number is widened.
 use mathlib.Core.Path.{_≡_, refl, ap}
 use mathlib.Core.List.{List, [], _∷_, map}

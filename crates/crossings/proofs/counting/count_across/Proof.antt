@@ -1,4 +1,4 @@
--- `counting::count_across` meets its contract. The loop's invariant: the first j places of the second run are compared with the first.
+-- `count_across` meets its contract. The loop's invariant: the first j places of the second run are compared with the first.
 use Prim.Native.Nat.{_+_, _-_, _*_, _≤_}
 use mathlib.Core.Path.{_≡_, sym, ap, ap₂, _∙_}
 use mathlib.Core.List.{[], _∷_}

@@ -1,4 +1,4 @@
--- `counting::count_pairs` meets its contract. The loop's invariant: the pairs of the first i leaves are counted.
+-- `count_pairs` meets its contract. The loop's invariant: the pairs of the first i leaves are counted.
 use Prim.Native.Nat.{_+_, _-_, _≤_}
 use mathlib.Core.Path.{_≡_, refl, sym, ap, ap₂, _∙_}
 use native.Mathlib.Omega.{arith}

@@ -1,4 +1,4 @@
--- `counting::count_seen` meets its contract. The loop's invariant: the leaves passed are seen, and their crossings counted.
+-- `count_seen` meets its contract. The loop's invariant: the leaves passed are seen, and their crossings counted.
 use Prim.Native.Nat.{_+_, _-_, _≤_}
 use native.Mathlib.Omega.{arith}
 use lib.ListN.{getD}

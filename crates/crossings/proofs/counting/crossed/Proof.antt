@@ -1,4 +1,4 @@
--- `counting::crossed` meets its contract: its test is the definition's.
+-- `crossed` meets its contract: its test is the definition's.
 use mathlib.Core.Path.{_≡_, sym, ap, ap₂, _∙_}
 use mathlib.Core.Bool.{Bool, _&&_, _||_}
 use mathlib.Core.Logic.{⊎-elim}

@@ -1,4 +1,4 @@
--- `counting::crossed_before` meets its contract. The loop's invariant: the first j links are counted.
+-- `crossed_before` meets its contract. The loop's invariant: the first j links are counted.
 use Prim.Native.Nat.{suc, _+_, _-_, _≤_}
 use mathlib.Core.Path.{_≡_, refl, sym, ap, ap₂, _∙_}
 use mathlib.Core.List.{[], _∷_}

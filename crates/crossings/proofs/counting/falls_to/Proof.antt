@@ -1,4 +1,4 @@
--- `counting::falls_to` meets its contract.
+-- `falls_to` meets its contract.
 use mathlib.Core.Path.{sym, ap}
 use native.Mathlib.Omega.{arith}
 use borrow.Author.Tests.{lt-ltb, le-ltb}

@@ -1,4 +1,4 @@
--- `counting::past_among` meets its contract. The loop's invariant: the first i places of the run are compared.
+-- `past_among` meets its contract. The loop's invariant: the first i places of the run are compared.
 use Prim.Native.Nat.{_+_, _-_, _≤_}
 use mathlib.Core.Path.{_≡_, refl, sym, ap, ap₂, _∙_}
 use mathlib.Core.List.{[], _∷_}

@@ -1,4 +1,4 @@
--- `entangled::displaced` meets its contract. The loop's invariant: the squares of the first i links are added up.
+-- `displaced` meets its contract. The loop's invariant: the squares of the first i links are added up.
 use Prim.Native.Nat.{ℕ, _+_, _*_, _-_, _≤_, _<_}
 use mathlib.Core.Path.{_≡_, refl, sym, ap, ap₂, _∙_}
 use native.Mathlib.Omega.{arith}

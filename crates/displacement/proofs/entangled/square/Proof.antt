@@ -1,4 +1,4 @@
--- `entangled::square` meets its contract: two places are at most 511 apart.
+-- `square` meets its contract: two places are at most 511 apart.
 use Prim.Native.Nat.{ℕ, _*_, _≤_}
 use mathlib.Core.Path.{ap}
 use native.Mathlib.Nat.{mul-le-mul}

@@ -1,4 +1,4 @@
--- `entangled::worst_value` meets its contract: n(n² - 1) is n³ - n, and n³ is at most 512³.
+-- `worst_value` meets its contract: n(n² - 1) is n³ - n, and n³ is at most 512³.
 use Prim.Native.Nat.{ℕ, zero, suc, _*_, _-_, _/_, _≤_, _<_}
 use mathlib.Core.Path.{_≡_, sym, ap, ap₂, _∙_}
 use native.Mathlib.Nat.{mul-assoc, mul-le-mul, mul-one, mul-pos, mul-sub, le-mul-of-pos-right}

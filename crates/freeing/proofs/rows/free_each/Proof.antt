@@ -1,4 +1,4 @@
--- `rows::free_each` meets its contract. The loop's invariant: the rows before `row` have their byte after freeing, the others their old
+-- `free_each` meets its contract. The loop's invariant: the rows before `row` have their byte after freeing, the others their old
 -- one, and for the objects below n + row it is noted where the far places under them stand.
 use Prim.Native.Nat.{ℕ, _+_, _-_, _*_, _≤_, _<_}
 use mathlib.Core.Path.{_≡_, refl, ap, _∙_}

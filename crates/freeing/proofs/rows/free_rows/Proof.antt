@@ -1,4 +1,4 @@
--- `rows::free_rows` meets its contract: in the table with the layout applied each row's test is the one by which freeing chooses.
+-- `free_rows` meets its contract: in the table with the layout applied each row's test is the one by which freeing chooses.
 use borrow.Author.Needs.{needs}
 use Rattle.freeing.proofs.Chosen.{laid-good, laid-size, laid-apart, frees-freed}
 use Rattle.freeing.proofs.rows.free_rows.Statement.{statement}

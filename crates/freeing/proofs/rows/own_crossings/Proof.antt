@@ -1,4 +1,4 @@
--- `rows::own_crossings` meets its contract: one of the two ways is counted, and the other is the pairs less that.
+-- `own_crossings` meets its contract: one of the two ways is counted, and the other is the pairs less that.
 use Prim.Native.Nat.{_*_, _≤_}
 use native.Mathlib.Nat.{mul-le-mul}
 use native.Mathlib.Omega.{arith}

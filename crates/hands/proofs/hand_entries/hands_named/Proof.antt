@@ -1,4 +1,4 @@
--- `table::hand_entries::hands_named` meets its contract: a walk of its MIR, by hand. One call tests the list, the record lent to it as a
+-- `hands_named` meets its contract: a walk of its MIR, by hand. One call tests the list, the record lent to it as a
 -- `&`; each turn lends the record again, and one call turns a row over. Between the turns stands `Turning`, of the entries left.
 use mathlib.Core.Path.{_≡_, refl, sym, ap, _∙_, subst}
 use mathlib.Core.WellFounded.{WellFounded, InvImage·wf}

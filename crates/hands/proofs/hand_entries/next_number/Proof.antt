@@ -1,4 +1,4 @@
--- `table::hand_entries::next_number` meets its contract: the refusal found so far, or that of the entry.
+-- `next_number` meets its contract: the refusal found so far, or that of the entry.
 use mathlib.Core.Path.{sym, ap, _∙_}
 use Rattle.format.specs.Fields.{holdOf}
 use Rattle.format.proofs.Acceptance.{else-first, else-second}

@@ -1,4 +1,4 @@
--- `table::hand_entries::test_entries` meets its contract: a walk of its MIR, by hand. The list's number and the record are tested by one
+-- `test_entries` meets its contract: a walk of its MIR, by hand. The list's number and the record are tested by one
 -- call, and each entry by one more; between the turns stands that the refusal found so far, or that of what is left, is the list's.
 use mathlib.Core.Path.{_≡_, refl, sym, ap}
 use mathlib.Core.WellFounded.{WellFounded, InvImage·wf}

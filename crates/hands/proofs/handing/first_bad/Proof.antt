@@ -1,4 +1,4 @@
--- `table::handing::first_bad` meets its contract. The loop's invariant is `Found`: nothing was found before entry i.
+-- `first_bad` meets its contract. The loop's invariant is `Found`: nothing was found before entry i.
 use Prim.Native.Nat.{_+_, _-_}
 use mathlib.Core.Path.{_≡_, ap₂, _∙_, subst}
 use lib.ListN.{length, getD}

@@ -1,4 +1,4 @@
--- `table::handing::hand_number` meets its contract: each early return is one of 13, 15 and 11, with what the tests before it left.
+-- `hand_number` meets its contract: each early return is one of 13, 15 and 11, with what the tests before it left.
 use mathlib.Core.Path.{_≡_, sym, _∙_}
 use mathlib.Core.Bool.{true}
 use borrow.Author.Tests.{not-true, not-false}

@@ -1,4 +1,4 @@
--- `table::handing::hands` meets its contract: the list's number and the record, then the entries, then the turning.
+-- `hands` meets its contract: the list's number and the record, then the entries, then the turning.
 use mathlib.Core.Path.{_≡_, sym, _∙_}
 use native.Mathlib.Omega.{arith}
 use Rattle.format.specs.Refusals.{refusal}

@@ -1,4 +1,4 @@
--- `table::handing::list_number` meets its contract: 17 before the record's own refusal.
+-- `list_number` meets its contract: 17 before the record's own refusal.
 use mathlib.Core.Path.{refl}
 use borrow.Author.Tests.{lt-ltb, le-ltb}
 use borrow.Author.Needs.{needs}

@@ -1,4 +1,4 @@
--- `table::handing::turn_hand` meets its contract: the byte stored is the record laid anew (`turned-stored`).
+-- `turn_hand` meets its contract: the byte stored is the record laid anew (`turned-stored`).
 use mathlib.Core.Path.{refl}
 use native.Mathlib.Omega.{arith}
 use Rattle.standing.specs.Sides.{sideOf}

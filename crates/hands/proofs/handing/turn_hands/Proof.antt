@@ -1,4 +1,4 @@
--- `table::handing::turn_hands` meets its contract. The loop's invariant is `Turning`, of the entries left.
+-- `turn_hands` meets its contract. The loop's invariant is `Turning`, of the entries left.
 use Prim.Native.Nat.{_-_}
 use mathlib.Core.Path.{sym, ap₂, _∙_}
 use mathlib.Core.List.{[], _∷_, map}

@@ -1,4 +1,4 @@
--- `leaves::far_ends` meets its contract. The loop's invariant: the first i entries are filled.
+-- `far_ends` meets its contract. The loop's invariant: the first i entries are filled.
 use Prim.Native.Nat.{ℕ, suc, _-_, _≤_, _<_}
 use mathlib.Core.Path.{_≡_, ap, _∙_}
 use native.Mathlib.Numerals.{sub-one}

@@ -1,4 +1,4 @@
--- `leaves::held` meets its contract.
+-- `held` meets its contract.
 use mathlib.Core.Path.{ap, _∙_}
 use Prim.Native.Nat.{ℕ}
 use native.Mathlib.Numerals.{sub-one}

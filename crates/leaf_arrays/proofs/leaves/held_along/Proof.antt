@@ -1,4 +1,4 @@
--- `leaves::held_along` meets its contract. The loop's invariant: the first i entries are written over.
+-- `held_along` meets its contract. The loop's invariant: the first i entries are written over.
 use Prim.Native.Nat.{ℕ, _-_, _≤_}
 use mathlib.Core.Path.{_≡_, refl, ap, _∙_}
 use native.Mathlib.Numerals.{sub-one}

@@ -1,4 +1,4 @@
--- `leaves::near_ends` meets its contract. The loop's invariant: for each link passed, the place of its left end stands at its
+-- `near_ends` meets its contract. The loop's invariant: for each link passed, the place of its left end stands at its
 -- right leaf.
 use Prim.Native.Nat.{_-_}
 use native.Mathlib.Omega.{arith}

@@ -1,4 +1,4 @@
--- `leaves::places` meets its contract. The loop's invariant: the place of each leaf passed stands at that leaf.
+-- `places` meets its contract. The loop's invariant: the place of each leaf passed stands at that leaf.
 use Prim.Native.Nat.{_-_}
 use native.Mathlib.Omega.{arith}
 use borrow.Author.Needs.{needs}

@@ -1,4 +1,4 @@
--- `trees::agree` meets its contract. The loop's invariant: the first i entries are the same.
+-- `agree` meets its contract. The loop's invariant: the first i entries are the same.
 use Prim.Native.Nat.{_≤_, _-_}
 use mathlib.Core.Path.{_≡_, refl, sym}
 use mathlib.Core.Bool.{true≢false}

@@ -1,4 +1,4 @@
--- `trees::compatible` meets its contract: it lends `match_layout` a byte for each row.
+-- `compatible` meets its contract: it lends `match_layout` a byte for each row.
 use Prim.Native.Nat.{ℕ, _-_}
 use mathlib.Core.Path.{_≡_, sym}
 use mathlib.Core.List.{List}

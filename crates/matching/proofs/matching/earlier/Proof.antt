@@ -1,4 +1,4 @@
--- `trees::earlier` meets its contract.
+-- `earlier` meets its contract.
 use mathlib.Core.Path.{refl}
 use borrow.Author.Tests.{lt-ltb, le-ltb}
 use Rattle.matching.proofs.matching.earlier.Statement.{statement}

@@ -1,4 +1,4 @@
--- `trees::match_layout` meets its contract: what the layout read off the order gives is compared with the order.
+-- `match_layout` meets its contract: what the layout read off the order gives is compared with the order.
 use Prim.Native.Nat.{ℕ}
 use mathlib.Core.Path.{refl, ap, _∙_}
 use borrow.Author.Needs.{needs}

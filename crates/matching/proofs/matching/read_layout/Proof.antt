@@ -1,4 +1,4 @@
--- `trees::read_layout` meets its contract. The loop's invariant: the rows before row i have their bytes, and the objects below n + i
+-- `read_layout` meets its contract. The loop's invariant: the rows before row i have their bytes, and the objects below n + i
 -- the places of their uppermost leaves.
 use Prim.Native.Nat.{_-_, _*_, _<_}
 use mathlib.Core.Path.{_≡_, refl}

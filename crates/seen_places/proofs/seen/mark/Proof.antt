@@ -1,4 +1,4 @@
--- `seen::mark` meets its contract: the shift makes the digit of the place.
+-- `mark` meets its contract: the shift makes the digit of the place.
 use Prim.Native.Nat.{ℕ, _/_, _%_}
 use mathlib.Core.Path.{ap}
 use native.Mathlib.Omega.{arith}

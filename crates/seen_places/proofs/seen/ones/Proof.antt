@@ -1,4 +1,4 @@
--- `seen::ones` meets its contract: the ones of a word are the sum of its digits.
+-- `ones` meets its contract: the ones of a word are the sum of its digits.
 use lib.Count.{ones-le}
 use Rattle.seen_places.proofs.Words.{word-ones}
 use Rattle.seen_places.proofs.seen.ones.Statement.{statement}

@@ -1,4 +1,4 @@
--- `seen::ones_after` meets its contract: the two shifts leave the digits past j.
+-- `ones_after` meets its contract: the two shifts leave the digits past j.
 use native.Mathlib.Nat.{lt-of-le-of-lt}
 use borrow.Author.Needs.{needs}
 use lib.Count.{ones-le}

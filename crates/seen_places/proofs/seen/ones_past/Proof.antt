@@ -1,4 +1,4 @@
--- `seen::ones_past` meets its contract. The loop's invariant: the marked places past p in the words passed are counted.
+-- `ones_past` meets its contract. The loop's invariant: the marked places past p in the words passed are counted.
 use mathlib.Core.Path.{_≡_, ap, _∙_}
 use Prim.Native.Nat.{ℕ, suc, _-_, _*_, _≤_, _<_}
 use native.Mathlib.Omega.{arith}

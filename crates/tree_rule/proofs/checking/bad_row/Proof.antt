@@ -1,4 +1,4 @@
--- `trees::bad_row` meets its contract. The loop's invariant: the rows before row i keep the rule and have their entries marked, and
+-- `bad_row` meets its contract. The loop's invariant: the rows before row i keep the rule and have their entries marked, and
 -- the bad row is the first of those from row i on.
 use Prim.Native.Nat.{ℕ, _-_, _*_, _≤_, _<_}
 use mathlib.Core.Path.{_≡_, sym, _∙_}

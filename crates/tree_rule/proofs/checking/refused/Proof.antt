@@ -1,4 +1,4 @@
--- `trees::refused` meets its contract: each of the three tests is one of the contract's.
+-- `refused` meets its contract: each of the three tests is one of the contract's.
 use mathlib.Core.Path.{refl}
 use borrow.Author.Needs.{needs}
 use borrow.Author.Tests.{le-leb, lt-leb, eq-eqb, ne-eqb}

@@ -1,4 +1,4 @@
--- `trees::walk` meets its contract: a leaf is written, and a branching's two children are walked one after the other. The measure is
+-- `walk` meets its contract: a leaf is written, and a branching's two children are walked one after the other. The measure is
 -- the object's number, since a child's is below its parent's.
 use Prim.Native.Nat.{ℕ, _<_}
 use mathlib.Core.Path.{refl, ap, _∙_}

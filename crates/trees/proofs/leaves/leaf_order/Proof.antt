@@ -1,4 +1,4 @@
--- `trees::leaf_order` meets its contract: the last object is walked, and its leaves are n.
+-- `leaf_order` meets its contract: the last object is walked, and its leaves are n.
 use mathlib.Core.Path.{_∙_}
 use native.Mathlib.Omega.{arith}
 use borrow.Author.Needs.{needs}

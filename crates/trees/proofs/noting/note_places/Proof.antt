@@ -1,4 +1,4 @@
--- `trees::note_places` meets its contract. The loop's invariant: each leaf has its first place among the entries from i on.
+-- `note_places` meets its contract. The loop's invariant: each leaf has its first place among the entries from i on.
 use Prim.Native.Nat.{suc, _-_, _≤_}
 use mathlib.Core.Path.{_≡_}
 use native.Mathlib.Omega.{arith}

@@ -1,4 +1,4 @@
--- `trees::exchange` meets its contract. The loop's invariant: the first i rows have their entries exchanged where they are turned.
+-- `exchange` meets its contract. The loop's invariant: the first i rows have their entries exchanged where they are turned.
 use Prim.Native.Nat.{suc, _≤_, _-_}
 use mathlib.Core.Path.{_≡_, refl, sym, ap, _∙_}
 use mathlib.Core.Logic.{⊎-elim}

@@ -1,4 +1,4 @@
--- `trees::is_turned` meets its contract: only 0 is as given.
+-- `is_turned` meets its contract: only 0 is as given.
 use Prim.Native.Nat.{ℕ, zero, suc}
 use mathlib.Core.Path.{_≡_, refl}
 use mathlib.Core.Bool.{not}

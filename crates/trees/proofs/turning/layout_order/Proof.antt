@@ -1,4 +1,4 @@
--- `trees::layout_order` meets its contract: the leaves of the exchanged table stand in the layout's order.
+-- `layout_order` meets its contract: the leaves of the exchanged table stand in the layout's order.
 use mathlib.Core.Path.{_∙_}
 use borrow.Author.Needs.{needs}
 use Rattle.trees.proofs.Exchanged.{exchanged-good, exchanged-written}
