@@ -1,5 +1,3 @@
 pub mod HandLists
 pub mod TurnedRows
 pub mod Handed
-pub mod ByHand
-pub mod Again

@@ -1,6 +1,7 @@
-// Hand lists on any bytes: over plain numbers, and over entries of a side and a row.
-pub mod hand_entries;
+// Hand lists on any bytes, over plain numbers; and the test and the turning of one entry, for `hand_entries`.
 mod handing;
 
-pub use hand_entries::hands_named;
+pub use handing::hand_number;
 pub use handing::hands;
+pub use handing::list_number;
+pub use handing::turn_hand;

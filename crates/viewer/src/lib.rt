@@ -3,9 +3,9 @@
 // where that is not 0.
 ghost use mathlib.Core.List.{map};
 ghost use mathlib.Core.Path.{_≡_};
-ghost use Rattle.hands.specs.Entries.{handIn};
+ghost use Rattle.hand_entries.specs.Entries.{handIn};
 ghost use Rattle.viewer.specs.ForC.{CountsForC, EntanglesForC, FreesForC, HandsForC, noRatio, RunsForC};
-use hands::hand_entries::HandEntry;
+use hand_entries::hand_entries::HandEntry;
 use views::answers::Entangled;
 
 // The refusal, and the count.
@@ -127,7 +127,7 @@ pub struct TangleHands {
 pub extern "C" fn tangle_hands(s: &mut [u8], list: &[HandEntry]) -> TangleHands
     ensures { λ r. ⌜ HandsForC (now (s .entry)) (map handIn (now (list .entry))) r (now (s .exit)) ⌝ }
 {
-    let refusal = hands::hands_named(s, list);
+    let refusal = hand_entries::hands_named(s, list);
     TangleHands {
         refusal: refusal.number as u32,
     }

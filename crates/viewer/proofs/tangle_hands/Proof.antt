@@ -43,16 +43,16 @@ use denote.Exit.{yes}
 use Rattle.format.specs.declared.refusal.Refusal.{Refusal}
 use Rattle.format.proofs.refusal.Refusal as E
 use Rattle.format.proofs.refusal.Refusal.Laws as E′
-use Rattle.hands.specs.declared.hand_entries.HandEntry.{HandEntry}
+use Rattle.hand_entries.specs.declared.hand_entries.HandEntry.{HandEntry}
 use Rattle.hands.specs.Refusals.{Hand}
 use Rattle.hands.specs.Calls.{Hands}
-use Rattle.hands.specs.Entries.{handIn}
-use Rattle.hands.proofs.Again.{LentAgain, lends-again, comes-back}
-use Rattle.hands.proofs.hand_entries.HandEntry as T
-use Rattle.hands.proofs.hands_named as taken
-use Rattle.hands.proofs.hands_named.Symbol as taken-def
-use Rattle.hands.proofs.hands_named.Symbol.{name as #taken}
-use Rattle.hands.proofs.hands_named.Met as taken-thm
+use Rattle.hand_entries.specs.Entries.{handIn}
+use Rattle.hand_entries.proofs.Again.{LentAgain, lends-again, comes-back}
+use Rattle.hand_entries.proofs.hand_entries.HandEntry as T
+use Rattle.hand_entries.proofs.hands_named as taken
+use Rattle.hand_entries.proofs.hands_named.Symbol as taken-def
+use Rattle.hand_entries.proofs.hands_named.Symbol.{name as #taken}
+use Rattle.hand_entries.proofs.hands_named.Met as taken-thm
 use Rattle.viewer.specs.ForC.{handsForC}
 use Rattle.viewer.proofs.TangleHands as C
 use Rattle.viewer.proofs.TangleHands.Laws as C′
@@ -225,5 +225,5 @@ tangle-hands-spec 𝓤 H 𝓜 𝓖 𝓡 =
     entered 𝓤 H (tripleOf 𝓤 H (𝓖 .A) hands.signature (hands.spec 𝓤 H (𝓖 .A) (𝓜 .mem) (𝓡 .run)))
     (tables 𝓤 H 𝓜 𝓡 code.env .C) (tables 𝓤 H 𝓜 𝓡 code.env .Λ) #hands code.function (code.unfolded 𝓤 H 𝓜 𝓡)
     (hands-meets 𝓤 H (𝓖 .A) (givenOf 𝓤 H 𝓜 𝓖) (𝓜 .mem) (𝓡 .run) (tablesOf 𝓤 H 𝓜 (tables 𝓤 H 𝓜 𝓡 code.env))
-    (cited 𝓤 H (Taken 𝓤 H (𝓖 .A) (𝓜 .mem) (𝓡 .run)) 𝓜 𝓡 code.env #taken taken-def.routine code.calls-hands·hands-named
+    (cited 𝓤 H (Taken 𝓤 H (𝓖 .A) (𝓜 .mem) (𝓡 .run)) 𝓜 𝓡 code.env #taken taken-def.routine code.calls-hand-entries·hands-named
     (taken-thm.met 𝓤 H 𝓜 𝓖 𝓡)))

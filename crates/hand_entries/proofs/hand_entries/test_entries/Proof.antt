@@ -52,27 +52,27 @@ use denote.Triple.Walked.{says, Stays, stay-none-slice, walkOf, goes-none-slice,
 use denote.Exit.{yes}
 use Rattle.format.specs.Fields.{holdOf, sizeOf}
 use Rattle.format.specs.Refusals.{orElse, refusal}
-use Rattle.hands.specs.declared.hand_entries.HandEntry.{HandEntry}
+use Rattle.hand_entries.specs.declared.hand_entries.HandEntry.{HandEntry}
 use Rattle.hands.specs.Refusals.{hand, badHand, handing}
-use Rattle.hands.specs.Entries.{handIn}
-use Rattle.hands.proofs.ByHand.{tail, idle, has, not-none, is-none}
+use Rattle.hand_entries.specs.Entries.{handIn}
+use Rattle.hand_entries.proofs.ByHand.{tail, idle, has, not-none, is-none}
 use Rattle.standing.proofs.AsItStands.{long-enough}
 use Rattle.hands.proofs.HandLists.{Found, found-start, found-more, found-end, first-accepted, first-number, second-number}
-use Rattle.hands.proofs.hand_entries.HandEntry as T
-use Rattle.hands.proofs.hand_entries.HandEntry.Laws as T′
-use Rattle.hands.proofs.handing.list_number as gate
-use Rattle.hands.proofs.handing.list_number.Symbol as gate-def
-use Rattle.hands.proofs.handing.list_number.Symbol.{name as #gate}
-use Rattle.hands.proofs.handing.list_number.Met as gate-thm
-use Rattle.hands.proofs.hand_entries.next_number as step
-use Rattle.hands.proofs.hand_entries.next_number.Symbol as step-def
-use Rattle.hands.proofs.hand_entries.next_number.Symbol.{name as #step}
-use Rattle.hands.proofs.hand_entries.next_number.Met as step-thm
-use Rattle.hands.proofs.hand_entries.test_entries.Key.{name as #test}
-use Rattle.hands.proofs.hand_entries.test_entries as test
-use Rattle.hands.proofs.hand_entries.test_entries.Statement as stated
-use Rattle.hands.proofs.hand_entries.test_entries.Code as code
-use Rattle.hands.proofs.hand_entries.test_entries.Code.Mir as mir
+use Rattle.hand_entries.proofs.hand_entries.HandEntry as T
+use Rattle.hand_entries.proofs.hand_entries.HandEntry.Laws as T′
+use Rattle.hands.proofs.list_number as gate
+use Rattle.hands.proofs.list_number.Symbol as gate-def
+use Rattle.hands.proofs.list_number.Symbol.{name as #gate}
+use Rattle.hands.proofs.list_number.Met as gate-thm
+use Rattle.hand_entries.proofs.hand_entries.next_number as step
+use Rattle.hand_entries.proofs.hand_entries.next_number.Symbol as step-def
+use Rattle.hand_entries.proofs.hand_entries.next_number.Symbol.{name as #step}
+use Rattle.hand_entries.proofs.hand_entries.next_number.Met as step-thm
+use Rattle.hand_entries.proofs.hand_entries.test_entries.Key.{name as #test}
+use Rattle.hand_entries.proofs.hand_entries.test_entries as test
+use Rattle.hand_entries.proofs.hand_entries.test_entries.Statement as stated
+use Rattle.hand_entries.proofs.hand_entries.test_entries.Code as code
+use Rattle.hand_entries.proofs.hand_entries.test_entries.Code.Mir as mir
 
 abbrev R : RattleType
 R = T.the-row
@@ -430,7 +430,7 @@ test-entries-spec 𝓤 H 𝓜 𝓖 𝓡 =
     entered 𝓤 H (tripleOf 𝓤 H (𝓖 .A) test.signature (test.spec 𝓤 H (𝓖 .A) (𝓜 .mem) (𝓡 .run)))
     (tables 𝓤 H 𝓜 𝓡 code.env .C) (tables 𝓤 H 𝓜 𝓡 code.env .Λ) #test code.function (code.unfolded 𝓤 H 𝓜 𝓡)
     (test-meets 𝓤 H (𝓖 .A) (givenOf 𝓤 H 𝓜 𝓖) (𝓜 .mem) (𝓡 .run) (tablesOf 𝓤 H 𝓜 (tables 𝓤 H 𝓜 𝓡 code.env))
-    (cited 𝓤 H (Gate 𝓤 H (𝓖 .A) (𝓜 .mem) (𝓡 .run)) 𝓜 𝓡 code.env #gate gate-def.routine code.calls-hands·handing·list-number
+    (cited 𝓤 H (Gate 𝓤 H (𝓖 .A) (𝓜 .mem) (𝓡 .run)) 𝓜 𝓡 code.env #gate gate-def.routine code.calls-hands·list-number
     (gate-thm.met 𝓤 H 𝓜 𝓖 𝓡))
-    (cited 𝓤 H (Step 𝓤 H (𝓖 .A) (𝓜 .mem) (𝓡 .run)) 𝓜 𝓡 code.env #step step-def.routine code.calls-hands·hand-entries·next-number
+    (cited 𝓤 H (Step 𝓤 H (𝓖 .A) (𝓜 .mem) (𝓡 .run)) 𝓜 𝓡 code.env #step step-def.routine code.calls-hand-entries·hand-entries·next-number
     (step-thm.met 𝓤 H 𝓜 𝓖 𝓡)))

@@ -2,10 +2,10 @@
 use mathlib.Core.Path.{sym, ap, _∙_}
 use Rattle.format.specs.Fields.{holdOf}
 use Rattle.format.proofs.Acceptance.{else-first, else-second}
 use Rattle.hands.specs.Refusals.{badHand, hand}
 use borrow.Author.Needs.{needs}
-use Rattle.hands.proofs.hand_entries.next_number.Statement.{statement}
-use Rattle.hands.proofs.hand_entries.next_number.Tie as tie
+use Rattle.hand_entries.proofs.hand_entries.next_number.Statement.{statement}
+use Rattle.hand_entries.proofs.hand_entries.next_number.Tie as tie
 
 returns : tie.Need-returns
 returns c = sym (else-first _ _ (c .if1 .taken))

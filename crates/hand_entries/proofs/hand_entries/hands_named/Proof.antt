@@ -56,31 +56,31 @@ use Rattle.format.specs.Fields.{holdOf, sizeOf}
 use Rattle.format.specs.Meaning.{layoutsOf, relaid}
 use Rattle.format.proofs.refusal.Refusal as E
 use Rattle.format.proofs.refusal.Refusal.Laws as E′
-use Rattle.hands.specs.declared.hand_entries.HandEntry.{HandEntry}
+use Rattle.hand_entries.specs.declared.hand_entries.HandEntry.{HandEntry}
 use Rattle.standing.specs.Sides.{Given as Accepted}
 use Rattle.hands.specs.Refusals.{Hand, hand, handing}
 use Rattle.hands.specs.Calls.{handed, Hands}
-use Rattle.hands.specs.Entries.{handIn}
-use Rattle.hands.proofs.Again.{LentAgain, SharedAgain, lends-again, comes-back, lends-shared, shared-back}
+use Rattle.hand_entries.specs.Entries.{handIn}
+use Rattle.hand_entries.proofs.Again.{LentAgain, SharedAgain, lends-again, comes-back, lends-shared, shared-back}
 use Rattle.standing.proofs.AsItStands.{given}
-use Rattle.hands.proofs.ByHand.{tail, idle, has, not-none, is-none}
+use Rattle.hand_entries.proofs.ByHand.{tail, idle, has, not-none, is-none}
 use Rattle.hands.proofs.HandLists.{rest-cons, rest-none, handing-accepted, hands-refused, hands-accepted}
 use Rattle.hands.proofs.TurnedRows.{Turning, turning-start, turning-asks, turning-more, turning-end}
-use Rattle.hands.proofs.hand_entries.HandEntry as T
-use Rattle.hands.proofs.hand_entries.HandEntry.Laws as T′
-use Rattle.hands.proofs.hand_entries.test_entries as test
-use Rattle.hands.proofs.hand_entries.test_entries.Symbol as test-def
-use Rattle.hands.proofs.hand_entries.test_entries.Symbol.{name as #test}
-use Rattle.hands.proofs.hand_entries.test_entries.Met as test-thm
-use Rattle.hands.proofs.hand_entries.turn_entry as turn
-use Rattle.hands.proofs.hand_entries.turn_entry.Symbol as turn-def
-use Rattle.hands.proofs.hand_entries.turn_entry.Symbol.{name as #turn}
-use Rattle.hands.proofs.hand_entries.turn_entry.Met as turn-thm
-use Rattle.hands.proofs.hand_entries.hands_named.Key.{name as #hands}
-use Rattle.hands.proofs.hand_entries.hands_named as hands
-use Rattle.hands.proofs.hand_entries.hands_named.Statement as stated
-use Rattle.hands.proofs.hand_entries.hands_named.Code as code
-use Rattle.hands.proofs.hand_entries.hands_named.Code.Mir as mir
+use Rattle.hand_entries.proofs.hand_entries.HandEntry as T
+use Rattle.hand_entries.proofs.hand_entries.HandEntry.Laws as T′
+use Rattle.hand_entries.proofs.hand_entries.test_entries as test
+use Rattle.hand_entries.proofs.hand_entries.test_entries.Symbol as test-def
+use Rattle.hand_entries.proofs.hand_entries.test_entries.Symbol.{name as #test}
+use Rattle.hand_entries.proofs.hand_entries.test_entries.Met as test-thm
+use Rattle.hand_entries.proofs.hand_entries.turn_entry as turn
+use Rattle.hand_entries.proofs.hand_entries.turn_entry.Symbol as turn-def
+use Rattle.hand_entries.proofs.hand_entries.turn_entry.Symbol.{name as #turn}
+use Rattle.hand_entries.proofs.hand_entries.turn_entry.Met as turn-thm
+use Rattle.hand_entries.proofs.hand_entries.hands_named.Key.{name as #hands}
+use Rattle.hand_entries.proofs.hand_entries.hands_named as hands
+use Rattle.hand_entries.proofs.hand_entries.hands_named.Statement as stated
+use Rattle.hand_entries.proofs.hand_entries.hands_named.Code as code
+use Rattle.hand_entries.proofs.hand_entries.hands_named.Code.Mir as mir
 
 abbrev R : RattleType
 R = T.the-row
@@ -515,7 +515,7 @@ hands-named-spec 𝓤 H 𝓜 𝓖 𝓡 =
     entered 𝓤 H (tripleOf 𝓤 H (𝓖 .A) hands.signature (hands.spec 𝓤 H (𝓖 .A) (𝓜 .mem) (𝓡 .run)))
     (tables 𝓤 H 𝓜 𝓡 code.env .C) (tables 𝓤 H 𝓜 𝓡 code.env .Λ) #hands code.function (code.unfolded 𝓤 H 𝓜 𝓡)
     (hands-meets 𝓤 H (𝓖 .A) (givenOf 𝓤 H 𝓜 𝓖) (𝓜 .mem) (𝓡 .run) (tablesOf 𝓤 H 𝓜 (tables 𝓤 H 𝓜 𝓡 code.env))
-    (cited 𝓤 H (Test 𝓤 H (𝓖 .A) (𝓜 .mem) (𝓡 .run)) 𝓜 𝓡 code.env #test test-def.routine code.calls-hands·hand-entries·test-entries
+    (cited 𝓤 H (Test 𝓤 H (𝓖 .A) (𝓜 .mem) (𝓡 .run)) 𝓜 𝓡 code.env #test test-def.routine code.calls-hand-entries·hand-entries·test-entries
     (test-thm.met 𝓤 H 𝓜 𝓖 𝓡))
-    (cited 𝓤 H (Turn 𝓤 H (𝓖 .A) (𝓜 .mem) (𝓡 .run)) 𝓜 𝓡 code.env #turn turn-def.routine code.calls-hands·hand-entries·turn-entry
+    (cited 𝓤 H (Turn 𝓤 H (𝓖 .A) (𝓜 .mem) (𝓡 .run)) 𝓜 𝓡 code.env #turn turn-def.routine code.calls-hand-entries·hand-entries·turn-entry
     (turn-thm.met 𝓤 H 𝓜 𝓖 𝓡)))

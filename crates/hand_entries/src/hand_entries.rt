@@ -7,14 +7,14 @@ ghost use lib.ListN.{length};
 ghost use Rattle.format.specs.Fields.{holdOf, sizeOf};
 ghost use Rattle.format.specs.Meaning.{layoutsOf, relaid};
 ghost use Rattle.format.specs.Refusals.{orElse};
 ghost use Rattle.hands.specs.Calls.{handed, Hands};
-ghost use Rattle.hands.specs.Entries.{handIn};
+ghost use Rattle.hand_entries.specs.Entries.{handIn};
 ghost use Rattle.hands.specs.Refusals.{badHand, hand, handing};
 ghost use Rattle.standing.specs.Sides.{Given};
-use crate::handing::hand_number;
-use crate::handing::list_number;
-use crate::handing::turn_hand;
 use format::refusal::Refusal;
+use hands::hand_number;
+use hands::list_number;
+use hands::turn_hand;
 
 // An entry: its side and its row.
 #[repr(C)]
