@@ -16,7 +16,8 @@ use Rattle.format.specs.Fields.{bytes, holdOf, sizeOf, parts}
 use Rattle.format.specs.Refusals.{isLayout}
 use Rattle.format.specs.Meaning.{tableOf, layoutsOf, relaid}
 use Rattle.format.proofs.Acceptance.{accepted-sized, accepted-parts, none-both}
-use Rattle.format.proofs.Meaning.{length-left, length-right, relaid-accepted, size-relaid, hold-relaid, table-relaid, layouts-of-relaid, relaid-again, relaid-same}
+use Rattle.format.proofs.Meaning.{length-left, length-right, relaid-accepted, size-relaid, hold-relaid, table-relaid, layouts-of-relaid}
+use Rattle.format.proofs.Meaning.{relaid-again, relaid-same}
 use Rattle.format.proofs.Stores.{length-bytes}
 use Rattle.format.proofs.Tests.{all-each, each-all}
 use Rattle.standing.specs.Sides.{sideOf, Given, layoutAt}

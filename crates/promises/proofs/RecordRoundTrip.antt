@@ -7,7 +7,8 @@ use lib.ListN.{length, take, drop}
 use lib.Seq.{take-at, take-append-seam}
 use Rattle.tanglegram.specs.Lists.{Each}
 use Rattle.format.specs.declared.refusal.Refusal.{Refusal}
-use Rattle.format.specs.Fields.{holdOf, sizeOf, rightAt, linksAt, leftLayoutAt, rightLayoutAt, lengthOf, Parts, given, parts, partsOf, packed}
+use Rattle.format.specs.Fields.{holdOf, sizeOf, rightAt, linksAt, leftLayoutAt, rightLayoutAt, lengthOf, Parts, given, parts, partsOf}
+use Rattle.format.specs.Fields.{packed}
 use Rattle.format.specs.Refusals.{refusal}
 use Rattle.record.specs.Calls.{lent}
 use Rattle.format.proofs.Stores.{length-numbers, length-bytes}

@@ -1,5 +1,5 @@
--- What the calls for C answer and leave, for every input: what the call itself answers (`views`, `table`, `hands`), field by field as the number
--- that C has, and what it leaves.
+-- What the calls for C answer and leave, for every input: what the call itself answers (`views`, `table`, `hands`), field by field as the
+-- number that C has, and what it leaves.
 use Prim.Native.Nat.{ℕ}
 use mathlib.Core.Path.{_≡_}
 use mathlib.Core.Bool.{false}
