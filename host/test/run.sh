@@ -37,4 +37,4 @@ for group in $failed; do
   echo "host tests: the $group group failed"
 done
 [ -z "$failed" ]
-bash host/measure/speed.sh
+bash host/measure/speed.sh 4 # by hand the limit is 2; here the machine may be any, and busy
