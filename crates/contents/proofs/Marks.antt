@@ -15,7 +15,8 @@ use Rattle.tanglegram.proofs.Lists.{range-each, mem-range}
 use Rattle.tree_rule.specs.Rule.{among}
 use Rattle.contents.specs.Marks.{marked, marking, allMarked}
 use Rattle.format.specs.Refusals.{all, oneToOne}
-use Rattle.format.proofs.Stores.{range-end, length-map-range, getD-made}
+use Rattle.tanglegram.proofs.ListSums.{range-last}
+use Rattle.format.proofs.Stores.{length-map-range, getD-made}
 use Rattle.format.proofs.Tests.{all-ext, all-append, all-fails, each-all}
 
 pub length-marked : (xs : List ℕ) → length (marked xs) ≡ 512
@@ -117,7 +118,7 @@ all-marked-more ms i e h =
     let p : ℕ → Bool = λ c. not (eqb (getD ms (pred c) 0) 0) in
     let last : 1 + i ≡ suc i = omega arith in
     ap (λ m. all p (range 1 m)) (add-one i)
-    ∙ ap (all p) (range-end 1 i)
+    ∙ ap (all p) (range-last 1 i)
     ∙ all-append p (range 1 i) ((1 + i) ∷ [])
     ∙ rw (e, last) (each-all p (suc i ∷ []) (rw (ne-eqb (getD ms i 0) 0 h) refl, tt))
 

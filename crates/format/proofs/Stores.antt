@@ -2,29 +2,20 @@
 use Prim.Native.Nat.{ℕ, zero, suc, _+_, _*_, _/_, _%_, _≤_, _<_}
 use mathlib.Core.Path.{_≡_, refl, sym, ap, _∙_}
 use mathlib.Core.List.{List, [], _∷_, _++_, map}
-use native.Mathlib.Nat.{add-suc, suc-add, add-zero}
 use native.Mathlib.Numerals.{add-one}
 use native.Mathlib.Omega.{arith}
 use lib.ListN.{length, getD, set, take, drop, length-drop}
 use lib.Seq.{sets, sets-eq, take-suc, length-take-le}
 use Rattle.tanglegram.specs.Lists.{range}
+use Rattle.tanglegram.proofs.ListSums.{range-last}
+use Rattle.trees.proofs.Stores.{sets-append}
 use Rattle.format.specs.Fields.{two, numbers, bytes, split}
-
--- two runs, one after the other
-pub sets-append : (vs ws l : List ℕ) (at : ℕ) → sets l at (vs ++ ws) ≡ sets (sets l at vs) (at + length vs) ws
-sets-append [] ws l at = rw (add-zero at) refl
-sets-append (v ∷ vs) ws l at = sets-append vs ws (set l at v) (suc at) ∙ rw (suc-add at (length vs), add-suc at (length vs)) refl
 
 -- a run from the first place on
 pub sets-front : (l vs : List ℕ) → length vs ≤ length l → sets l 0 vs ≡ vs ++ drop (length vs) l
 sets-front l vs h = let e : 0 + length vs ≡ length vs = omega arith in sets-eq vs l 0 (omega arith) ∙ ap (λ k. vs ++ drop k l) e
 
 -- a range grows at its end, and so does what is made of it
-pub range-end : (k n : ℕ) → range k (suc n) ≡ range k n ++ ((k + n) ∷ [])
-unfolding range
-range-end k zero = rw (add-zero k) refl
-range-end k (suc n) = ap (λ r. k ∷ r) (range-end (suc k) n ∙ rw (suc-add k n, add-suc k n) refl)
-
 pub map-append : (f : ℕ → ℕ) (xs ys : List ℕ) → map f (xs ++ ys) ≡ map f xs ++ map f ys
 map-append f [] ys = refl
 map-append f (x ∷ xs) ys = ap (λ r. f x ∷ r) (map-append f xs ys)
@@ -32,7 +23,7 @@ map-append f (x ∷ xs) ys = ap (λ r. f x ∷ r) (map-append f xs ys)
 pub map-range-end : (f : ℕ → ℕ) (n : ℕ) → map f (range 0 (n + 1)) ≡ map f (range 0 n) ++ (f n ∷ [])
 map-range-end f n =
     let e : 0 + n ≡ n = omega arith in
-    ap (λ k. map f (range 0 k)) (add-one n) ∙ ap (map f) (range-end 0 n) ∙ map-append f (range 0 n) ((0 + n) ∷ []) ∙ rw e refl
+    ap (λ k. map f (range 0 k)) (add-one n) ∙ ap (map f) (range-last 0 n) ∙ map-append f (range 0 n) ((0 + n) ∷ []) ∙ rw e refl
 
 pub length-map-range : (f : ℕ → ℕ) (k n : ℕ) → length (map f (range k n)) ≡ n
 unfolding range

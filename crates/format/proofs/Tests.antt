@@ -8,16 +8,13 @@ use borrow.Author.Tests.{eqb-true, eq-eqb, le-leb, lt-leb}
 use lib.Dec.{eqb, leb}
 use lib.ListN.{length, getD, take}
 use Rattle.tanglegram.specs.Lists.{Each, range}
+use Rattle.tanglegram.proofs.Bools.{and-both}
 use Rattle.tanglegram.proofs.Lists.{each-map, each-intro, mem-perm, mem-at, pigeon, range-distinct, length-range}
 use Rattle.tree_rule.specs.Rule.{among}
 use Rattle.format.specs.Refusals.{all, isLayout, oneToOne}
 use Rattle.format.proofs.Stores.{take-more}
 
 -- ---- each entry passes a test
-
-pub and-both : (a b : Bool) → a && b ≡ true → (a ≡ true) × (b ≡ true)
-and-both true b e = (refl, e)
-and-both false b e = absurd (false≢true e)
 
 pub all-each : (p : ℕ → Bool) (xs : List ℕ) → all p xs ≡ true → Each (λ x. p x ≡ true) xs
 unfolding all

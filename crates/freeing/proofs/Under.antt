@@ -4,9 +4,9 @@ use mathlib.Core.Path.{_≡_, refl}
 use mathlib.Core.List.{List, [], _∷_, map}
 use native.Mathlib.Omega.{arith}
 use Rattle.tanglegram.specs.Lists.{Each, Pairwise}
-use Rattle.tanglegram.specs.Tree.{Tree, leaf, fork, rows, EachRow}
-use Rattle.tanglegram.proofs.Lists.{each-append, each-mem, each-perm, mem-range}
-use Rattle.tanglegram.proofs.Tree.{eachRow-zip, rows-each, rows-once}
+use Rattle.tanglegram.specs.Tree.{Tree, EachRow}
+use Rattle.tanglegram.proofs.Lists.{each-mem, each-perm, mem-range}
+use Rattle.tanglegram.proofs.Tree.{eachRow-rows, eachRow-zip, rows-each, rows-once}
 use Rattle.trees.specs.Rows.{upper, lower, size, objectOf, treeOf, Good}
 
 -- ---- entries under a function
@@ -21,11 +21,6 @@ pairwise-unmapped R f (x ∷ xs) r = (each-unmapped (R (f x)) f xs (r .0), pairw
 
 -- ---- a row by its number
 
-each-row : (P : ℕ → Type 0) (t : Tree) → EachRow (λ i u l. P i) t → Each P (rows t)
-unfolding rows
-each-row P (leaf a) p = tt
-each-row P (fork i u l) p = (p .0, each-append P (rows u) (rows l) (each-row P u (p .1)) (each-row P l (p .2)))
-
 -- what holds at each row of a good table's tree holds of each row by its number
 pub row-at : (T : List ℕ) → Good T → (P : ℕ → Tree → Tree → Type 0) → EachRow P (treeOf T) →
     (i : ℕ) → 1 ≤ i → i < size T → P i (objectOf T (upper T i)) (objectOf T (lower T i))
@@ -36,6 +31,6 @@ row-at T good P all i p q =
     let Made : ℕ → Tree → Tree → Type 0 = λ j u l. (u ≡ objectOf T (upper T j)) × (l ≡ objectOf T (lower T j)) in
     let made = rows-each n (upper T) (lower T) (good .rule) Made (λ j x y. (refl, refl)) (n + pred n) (n + pred n)
     (omega arith) (omega arith) in
-    let here = each-row Here (treeOf T) (eachRow-zip (treeOf T) (λ j u l e h. rw (← e .0, ← e .1) h) made all) in
+    let here = eachRow-rows Here (treeOf T) (eachRow-zip (treeOf T) (λ j u l e h. rw (← e .0, ← e .1) h) made all) in
     each-mem Here (each-perm Here (rows-once n (upper T) (lower T) (good .rule) some) here)
     (mem-range i 1 (pred n) p (omega arith))

@@ -4,36 +4,22 @@ ghost use mathlib.Core.Path.{_≡_};
 ghost use Prim.Native.Nat.{_+_, _*_, _≤_};
 ghost use lib.ListN.{length};
 ghost use Rattle.tanglegram.specs.Crossings.{inverted};
-ghost use Rattle.tanglegram.specs.Order.{flip};
 ghost use Rattle.trees.specs.Rows.{Good, size, treeOf};
 ghost use Rattle.leaf_arrays.specs.Arrays.{at};
 ghost use Rattle.freeing.specs.Row.{Apart, asItStands, byteAfter, countAfter, Frees, RowsFreed, theOther};
 use crossings::count_across;
 use leaf_arrays::held_along;
+use leaf_arrays::wide;
 use trees::exchange;
-use trees::is_turned;
+use trees::flipped;
 use trees::leaf_order;
 use trees::note_places;
-
-// The byte that turns over a row whose byte is x.
-fn flipped(x: u8) -> u8
-    ensures { λ r. ⌜ r ≡ flip x ⌝ }
-{
-    if is_turned(x) { 0 } else { 1 }
-}
 
 // A row's byte after freeing, from its present byte and whether turning the row over gains.
 fn freed_byte(x: u8, gain: bool) -> u8
     ensures { λ r. ⌜ r ≡ byteAfter x gain ⌝ }
 {
     if gain { flipped(x) } else { x }
-}
-
-// An entry as an index.
-fn wide(x: u16) -> usize
-    ensures { λ r. ⌜ r ≡ x ⌝ }
-{
-    x as usize
 }
 
 // A row's own crossings after freeing, from those as it stands, those turned over, and whether turning it over gains.

@@ -10,16 +10,11 @@ use lib.Dec.{eqb, leb, ltb}
 use lib.ListN.{length, drop, replicate, length-append, length-drop}
 use lib.Seq.{paste, length-paste, getD-set-same, take-at}
 use Rattle.tanglegram.specs.Order.{order}
-use Rattle.tanglegram.proofs.Lists.{length-perm}
-use Rattle.tanglegram.proofs.Order.{order-perm}
+use Rattle.tanglegram.proofs.Bools.{and-both}
 use Rattle.trees.specs.Rows.{size, upper, lower, treeOf, Good}
 use Rattle.tree_rule.specs.Rule.{badRow}
-use Rattle.trees.proofs.Walked.{length-leaves}
+use Rattle.trees.proofs.Walked.{length-order}
 use Rattle.gauge.specs.Gauge.{sizes, tableOf, fits, Orders}
-
-both : (a b : Bool) → (a && b) ≡ true → (a ≡ true) × (b ≡ true)
-both true b e = (refl, e)
-both false b e = (e, (cc))
 
 -- Lists whose sizes fit.
 pub record Sized (n rows layout out : ℕ) : Type 0 where
@@ -31,10 +26,10 @@ pub record Sized (n rows layout out : ℕ) : Type 0 where
 
 pub sizes-sized : (n rows layout out : ℕ) → sizes n rows layout out ≡ true → Sized n rows layout out
 sizes-sized n r l o e =
-    let t₄ = both (not (eqb n 0) && not (ltb 512 n) && eqb r (2 * (n - 1)) && eqb l (n - 1)) (leb n o) e in
-    let t₃ = both (not (eqb n 0) && not (ltb 512 n) && eqb r (2 * (n - 1))) (eqb l (n - 1)) (t₄ .0) in
-    let t₂ = both (not (eqb n 0) && not (ltb 512 n)) (eqb r (2 * (n - 1))) (t₃ .0) in
-    let t₁ = both (not (eqb n 0)) (not (ltb 512 n)) (t₂ .0) in
+    let t₄ = and-both (not (eqb n 0) && not (ltb 512 n) && eqb r (2 * (n - 1)) && eqb l (n - 1)) (leb n o) e in
+    let t₃ = and-both (not (eqb n 0) && not (ltb 512 n) && eqb r (2 * (n - 1))) (eqb l (n - 1)) (t₄ .0) in
+    let t₂ = and-both (not (eqb n 0) && not (ltb 512 n)) (eqb r (2 * (n - 1))) (t₃ .0) in
+    let t₁ = and-both (not (eqb n 0)) (not (ltb 512 n)) (t₂ .0) in
     let nonzero = eqb-false n 0 (not-true (eqb n 0) (t₁ .0)) in
     let bytes = eqb-true l (n - 1) (t₃ .1) in
     record {
@@ -53,13 +48,10 @@ size-table rows n h =
     getD-set-same (paste (replicate 1023 0) 0 rows (length rows)) 1022 n 0 (omega arith)
 
 module _ (T : List ℕ) (good : Good T) (layout : List ℕ) where
-  length-order : length (order layout (treeOf T)) ≡ size T
-  length-order = length-perm (order-perm layout (treeOf T)) ∙ length-leaves T good
-
   pub array-long : 512 ≡ length (order layout (treeOf T) ++ drop (size T) (replicate 512 0))
   array-long =
       let most = good .most in
-      let o = length-order in
+      let o = length-order T good layout in
       let rest : List ℕ = drop (size T) (replicate 512 0) in
       omega (arith, length-append (order layout (treeOf T)) rest, length-drop (size T) (replicate {A = ℕ} 512 0))
 
@@ -67,7 +59,7 @@ module _ (T : List ℕ) (good : Good T) (layout : List ℕ) where
       paste before 0 (order layout (treeOf T) ++ drop (size T) (replicate 512 0)) n ≡ order layout (treeOf T) ++ drop n before
   copied-order before n e =
       let zero-more : 0 + n ≡ n = omega arith in
-      let first = take-at (order layout (treeOf T)) (drop (size T) (replicate 512 0)) n (length-order ∙ e) in
+      let first = take-at (order layout (treeOf T)) (drop (size T) (replicate 512 0)) n (length-order T good layout ∙ e) in
       rw (first, zero-more) refl
 
 -- ---- the outcomes

@@ -3,7 +3,7 @@
 use Prim.Native.Nat.{ℕ, zero, suc, _+_, _-_, _≤_, _<_}
 use mathlib.Core.Path.{_≡_, refl, sym, ap, _∙_}
 use mathlib.Core.Logic.{_≢_}
-use mathlib.Core.Bool.{Bool, true, false, cond, not, _||_, false≢true}
+use mathlib.Core.Bool.{Bool, true, false, cond, not, _||_}
 use mathlib.Core.List.{List, [], _∷_, map}
 use native.Mathlib.Numerals.{add-one}
 use native.Mathlib.Omega.{arith}
@@ -11,6 +11,7 @@ use borrow.Author.Tests.{eq-eqb, ne-eqb, lt-ltb, le-ltb, eqb-false, ltb-false}
 use lib.Dec.{eqb, ltb}
 use lib.ListN.{length, getD, drop, length-map, drop-of-length-le}
 use lib.Seq.{drop-cons}
+use Rattle.tanglegram.proofs.Bools.{or-neither}
 use Rattle.format.specs.Fields.{holdOf, sizeOf}
 use Rattle.format.specs.Refusals.{orElse, refusal}
 use Rattle.record.specs.Calls.{refused}
@@ -60,15 +61,11 @@ hand-good hold n h e =
     let t = none-first (not (isSide (h .side))) 13 _ (omega arith) e in
     let u = none-first (eqb (h .row) 0 || ltb (n - 1) (h .row)) 15 _ (omega arith) (t .1) in
     let v = none-first (holds hold (sideOf (h .side))) 11 0 (omega arith) (u .1) in
-    let w = neither (eqb (h .row) 0) (ltb (n - 1) (h .row)) (u .0) in
+    let w = or-neither (eqb (h .row) 0) (ltb (n - 1) (h .row)) (u .0) in
     let z = eqb-false (h .row) 0 (w .0) in
     let some : 1 ≤ h .row = positive (h .row) z in
     record { on-side = not-no _ (t .0); some = some; below = omega (arith, ltb-false (n - 1) (h .row) (w .1)); free = v .0 }
   where
-    neither : (a b : Bool) → (a || b) ≡ false → (a ≡ false) × (b ≡ false)
-    neither true b e = absurd (false≢true (sym e))
-    neither false b e = (refl, e)
-
     positive : (k : ℕ) → k ≢ 0 → 1 ≤ k
     positive zero h = absurd (h refl)
     positive (suc k) h = omega arith

@@ -4,6 +4,7 @@ use Prim.Native.Nat.{ℕ, zero, suc, pred, _+_, _-_, _≤_, _<_}
 use mathlib.Core.Path.{_≡_, refl, sym, ap, ap₂, _∙_, subst}
 use mathlib.Core.Bool.{true}
 use mathlib.Core.List.{List, [], _∷_, _++_}
+use native.Mathlib.Numerals.{sub-one}
 use native.Mathlib.Omega.{arith}
 use lib.Dec.{leb}
 use lib.ListN.{length, getD, take, drop, set, length-set, take-append-drop}
@@ -40,10 +41,6 @@ store-part s a m k v fits h =
     ∙ ap₂ _++_ (take-set-le a s (a + k) v (omega arith)) (drop-set-add a s k v ∙ part)
     ∙ ap (λ r. take a s ++ (set (bytes s a m) k v ++ r)) (drop-drop m a s)
 
-pred-less : (k : ℕ) → k - 1 ≡ pred k
-pred-less zero = refl
-pred-less (suc k) = omega arith
-
 module _ (s : List ℕ) (n : ℕ) (g : Given s n) where
   -- the byte that is stored, and the record so laid
   pub turned-stored : (side row : ℕ) {from at : ℕ} → 1 ≤ row → row < n → from ≡ layoutAt n (sideOf side) → at ≡ from + (row - 1) →
@@ -54,7 +51,7 @@ module _ (s : List ℕ) (n : ℕ) (g : Given s n) where
       let a = layoutAt n x in
       let k = pred row in
       let m = n - 1 in
-      let less : row - 1 ≡ pred row = pred-less row in
+      let less : row - 1 ≡ pred row = sub-one row in
       let here : at ≡ a + k = f ∙ ap₂ _+_ e less in
       let inside : k < m = omega arith in
       let lay : bytes s a m ≡ layout (layoutsOf s) x = side-layout s n g x in

@@ -10,7 +10,6 @@ ghost use Rattle.format.specs.Meaning.{layoutsOf, relaid};
 ghost use Rattle.hands.specs.Calls.{handed, Hands};
 ghost use Rattle.hands.specs.Refusals.{badHand, badHands, hand, handOf};
 ghost use Rattle.standing.specs.Sides.{Given};
-ghost use Rattle.tanglegram.specs.Order.{flip};
 use format::refusal::HANDS;
 use format::refusal::HELD;
 use format::refusal::ROW;
@@ -19,6 +18,7 @@ use format::refusal::SIDE;
 use standing::is_held;
 use standing::is_side;
 use standing::layout_at;
+use trees::flipped;
 
 // The refusal of one entry, or 0.
 pub fn hand_number(hold: u8, n: u16, side: u16, row: u16) -> u16
@@ -49,16 +49,6 @@ pub fn list_number(s: &[u8], entries: usize) -> u16
     record::refusal_number(s)
 }
 
-// The byte that turns a row over.
-fn turned_over(x: u8) -> u8
-    ensures { λ r. ⌜ r ≡ flip x ⌝ }
-{
-    if trees::is_turned(x) {
-        return 0;
-    }
-    1
-}
-
 // Turns one row of an accepted record over: one layout byte, and no other byte.
 pub fn turn_hand(s: &mut [u8], n: u16, side: u16, row: u16)
     requires { ⌜ Given (now s) n ⌝ }
@@ -68,7 +58,7 @@ pub fn turn_hand(s: &mut [u8], n: u16, side: u16, row: u16)
         ⌝ }
 {
     let at = layout_at(n, side) + (row as usize - 1);
-    s[at] = turned_over(s[at]);
+    s[at] = flipped(s[at]);
 }
 
 // The side and the row of an entry.

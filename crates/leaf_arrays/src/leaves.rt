@@ -7,7 +7,7 @@ ghost use Rattle.tanglegram.specs.Lists.{place, range, Each};
 ghost use Rattle.leaf_arrays.specs.Arrays.{OneToN, Leaf, along, at, filled};
 
 // An entry as an index.
-fn wide(x: u16) -> usize
+pub fn wide(x: u16) -> usize
     ensures { λ r. ⌜ r ≡ x ⌝ }
 {
     x as usize

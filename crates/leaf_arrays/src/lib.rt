@@ -7,3 +7,4 @@ pub use leaves::held;
 pub use leaves::held_along;
 pub use leaves::near_ends;
 pub use leaves::places;
+pub use leaves::wide;

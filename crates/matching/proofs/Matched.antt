@@ -7,28 +7,23 @@ use native.Mathlib.Omega.{arith}
 use lib.ListN.{length, take, drop, length-append, length-drop}
 use lib.Seq.{take-at}
 use Rattle.tanglegram.specs.Order.{order, Compatible, reading}
-use Rattle.tanglegram.proofs.Lists.{length-perm}
-use Rattle.tanglegram.proofs.Order.{order-perm, order-compatible}
+use Rattle.tanglegram.proofs.Order.{order-compatible}
 use Rattle.tanglegram.proofs.Compatible.{compatible-order}
 use Rattle.trees.specs.Rows.{size, treeOf, Good}
 use Rattle.matching.specs.Match.{orderIn, Tells}
-use Rattle.trees.proofs.Walked.{length-leaves}
+use Rattle.trees.proofs.Walked.{length-order}
 use Rattle.matching.proofs.Reading.{leaves-distinct, rows-distinct, rows-within}
 
 module _ (T lay : List ℕ) (good : Good T) where
-  -- a layout's order has n entries
-  pub length-order : length (order lay (treeOf T)) ≡ size T
-  length-order = length-perm (order-perm lay (treeOf T)) ∙ length-leaves T good
-
-  -- written over the first entries of an array, it leaves the array's length
+  -- a layout's order written over the first entries of an array, it leaves the array's length
   pub length-written : (out : List ℕ) → length out ≡ 512 → length (order lay (treeOf T) ++ drop (size T) out) ≡ 512
   length-written out h =
       let most = good .most in
-      omega (arith, length-append (order lay (treeOf T)) (drop (size T) out), length-drop (size T) out, length-order)
+      omega (arith, length-append (order lay (treeOf T)) (drop (size T) out), length-drop (size T) out, length-order T good lay)
 
   module _ (xs lay₀ rest : List ℕ) (long : length lay₀ + 1 ≡ size T) (read : lay ≡ reading (orderIn T xs) (treeOf T) lay₀) where
     order-first : take (size T) (order lay (treeOf T) ++ rest) ≡ order lay (treeOf T)
-    order-first = take-at (order lay (treeOf T)) rest (size T) length-order
+    order-first = take-at (order lay (treeOf T)) rest (size T) (length-order T good lay)
 
     -- comparing what that layout gives with the order tells whether the order is compatible
     pub match-tells : (out : List ℕ) (answer : Bool) → out ≡ order lay (treeOf T) ++ rest →

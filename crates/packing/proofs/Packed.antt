@@ -13,7 +13,8 @@ use Rattle.format.specs.Fields.{split, rightAt, linksAt, leftLayoutAt, rightLay
 use Rattle.format.specs.Refusals.{isHold, noSize, contents}
 use Rattle.record.specs.Calls.{refused}
 use Rattle.format.proofs.Heading.{sized, unsized, none-first, not-no}
-use Rattle.format.proofs.Stores.{sets-append, sets-front, length-split}
+use Rattle.trees.proofs.Stores.{sets-append}
+use Rattle.format.proofs.Stores.{sets-front, length-split}
 use Rattle.format.proofs.Acceptance.{else-first, else-second, none-both}
 use Rattle.record.proofs.Outcomes.{lent-refused, lent-accepted}
 use Rattle.packing.specs.Refusals.{shape, shapeOf, packing}

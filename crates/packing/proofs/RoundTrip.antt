@@ -11,11 +11,11 @@ use borrow.Author.Tests.{eqb-true}
 use lib.ListN.{length, getD, take, drop, length-append, length-drop, take-append-drop, List·getD-append}
 use lib.Seq.{take-suc, take-all, take-at, drop-at, drop-drop, getD-drop, getD-append-add, ext-getD}
 use Rattle.tanglegram.specs.Lists.{Each, range}
-use Rattle.tanglegram.proofs.Lists.{append-nil}
+use Rattle.tanglegram.proofs.Lists.{each-getD, append-nil}
 use Rattle.format.specs.Fields.{two, numbers, bytes, split, holdOf, sizeOf, rightAt, linksAt, leftLayoutAt, rightLayoutAt, lengthOf, Parts}
 use Rattle.format.specs.Fields.{given, opening, parts, partsOf, packed}
 use Rattle.format.specs.Refusals.{isMark, isHold, noSize, contents, heading, refusal}
-use Rattle.format.proofs.Tests.{and-both}
+use Rattle.tanglegram.proofs.Bools.{and-both}
 use Rattle.format.proofs.Stores.{getD-made, length-numbers, length-split, split-append, map-range-end, take-more, length-bytes}
 use Rattle.format.proofs.Heading.{heading-0, unsized}
 use Rattle.format.proofs.Acceptance.{accepted-heading, accepted-contents, refusal-contents}
@@ -123,11 +123,6 @@ packed-accepted P out e =
         (l ∙ ap lengthOf (sym n)))
 
 -- ---- the bytes that a record's parts make
-
-each-getD : (P : ℕ → Type 0) (xs : List ℕ) → P 0 → Each P xs → (i : ℕ) → P (getD xs i 0)
-each-getD P [] z p i = z
-each-getD P (x ∷ xs) z p zero = p .0
-each-getD P (x ∷ xs) z p (suc i) = each-getD P xs z (p .1) i
 
 take-made : (s : List ℕ) (m : ℕ) → m ≤ length s → take m s ≡ map (λ i. getD s i 0) (range 0 m)
 unfolding range

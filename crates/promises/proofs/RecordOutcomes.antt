@@ -1,9 +1,7 @@
 -- The statements of the five calls on records fix their outcomes: each part of two outcomes equals one and the same thing.
-use mathlib.Core.Path.{_≡_, refl, sym, _∙_}
+use mathlib.Core.Path.{_≡_, refl}
+use Rattle.record.proofs.Outcomes.{same}
 use Rattle.promises.specs.RecordOutcomes.{Outcome, UnpackOutcome, RecordOutcomes}
-
-pub same : {A : Type 0} {a b x : A} → a ≡ x → b ≡ x → a ≡ b
-same p q = p ∙ sym q
 
 -- outcomes that agree part by part
 pub outcome : {a b : Outcome} → a .answer ≡ b .answer → a .after ≡ b .after → a ≡ b

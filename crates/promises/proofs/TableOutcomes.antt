@@ -1,6 +1,7 @@
 -- The statements of the calls on the table fix their outcomes.
 use Rattle.promises.specs.TableOutcomes.{TableOutcomes}
-use Rattle.promises.proofs.RecordOutcomes.{same, outcome}
+use Rattle.record.proofs.Outcomes.{same}
+use Rattle.promises.proofs.RecordOutcomes.{outcome}
 
 pub table-outcomes : TableOutcomes
 table-outcomes = record {

@@ -3,7 +3,7 @@
 use Prim.Native.Nat.{ℕ, _-_, _≤_, _<_}
 use mathlib.Core.Path.{_≡_, refl, sym, ap, ap₂, _∙_, subst}
 use mathlib.Core.Logic.{_↔_}
-use mathlib.Core.Bool.{Bool, true, false, _&&_, false≢true}
+use mathlib.Core.Bool.{Bool, true, false, false≢true}
 use mathlib.Core.List.{List, [], _∷_, List·Permᴰ, List·Permᴰ·trans, Permᴰ·symm}
 use native.Mathlib.Omega.{arith}
 use borrow.Author.Tests.{leb-true, le-leb, lt-leb, eqb-true, eq-eqb}
@@ -16,6 +16,7 @@ use Rattle.tanglegram.specs.Order.{order, reading, Compatible}
 use Rattle.tanglegram.specs.Crossings.{pairs, inverted, count}
 use Rattle.tanglegram.specs.Run.{Side, left, right}
 use Rattle.tanglegram.specs.Table.{orderOf}
+use Rattle.tanglegram.proofs.Bools.{and-both}
 use Rattle.tanglegram.proofs.Lists.{all-distinct, each-perm, range-each}
 use Rattle.tanglegram.proofs.Order.{order-compatible}
 use Rattle.tanglegram.proofs.Compatible.{compatible-order}
@@ -35,17 +36,13 @@ use Rattle.standing.proofs.AsItStands.{given, side-leaves, linked-once, length-
 
 -- ---- tests
 
-both : (a b : Bool) → (a && b) ≡ true → (a ≡ true) × (b ≡ true)
-both true b e = (refl, e)
-both false b e = absurd (false≢true e)
-
 same-lists : (xs ys : List ℕ) → same xs ys ≡ true → xs ≡ ys
 unfolding same
 same-lists [] [] e = refl
 same-lists [] (y ∷ ys) e = absurd (false≢true e)
 same-lists (x ∷ xs) [] e = absurd (false≢true e)
 same-lists (x ∷ xs) (y ∷ ys) e =
-    let h = both (eqb x y) (same xs ys) e in ap₂ _∷_ (eqb-true x y (h .0)) (same-lists xs ys (h .1))
+    let h = and-both (eqb x y) (same xs ys) e in ap₂ _∷_ (eqb-true x y (h .0)) (same-lists xs ys (h .1))
 
 same-self : (xs : List ℕ) → same xs xs ≡ true
 unfolding same
@@ -75,7 +72,7 @@ module _ (s : List ℕ) (n : ℕ) (g : Given s n) (side : Side) (xs : List ℕ) 
   pub is-order-given : (isOrder n (tableOf s .tree side) xs ≡ true) ↔ ((n ≤ length xs) × Compatible (tableOf s .tree side) (take n xs))
   unfolding isOrder
   is-order-given = (
-    λ e. let h = both (leb n (length xs)) _ e in
+    λ e. let h = and-both (leb n (length xs)) _ e in
         (leb-true n (length xs) (h .0), subst (Compatible (tableOf s .tree side)) (same-lists _ (take n xs) (h .1)) (order-compatible _ _)),
     λ c. rw (le-leb n (length xs) (c .0), read-off (c .1)) (same-self (take n xs)),
   )

@@ -10,6 +10,11 @@ use Rattle.format.specs.Fields.{holdOf, sizeOf}
 use Rattle.format.specs.Refusals.{refusal, holding}
 use Rattle.record.specs.Calls.{refused, lent, orZero, Checks, readingOf, Reads, SetsHold}
 
+-- ---- two outcomes of which a part equals one and the same thing
+
+pub same : {A : Type 0} {a b x : A} → a ≡ x → b ≡ x → a ≡ b
+same p q = p ∙ sym q
+
 -- ---- numbers and buffers
 
 pub lent-refused : (k : ℕ) (part found : List ℕ) → k ≢ 0 → found ≡ lent k part found

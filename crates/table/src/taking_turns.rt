@@ -21,7 +21,7 @@ use standing::rows_at;
 
 // Frees a side: its layout bytes in the record, and no other byte. Answers the counts before and after, which are the
 // sums of the side's own crossings.
-pub fn free_side(s: &mut [u8], n: u16, side: u16) -> Sums
+fn free_side(s: &mut [u8], n: u16, side: u16) -> Sums
     requires { ⌜ Given (now s) n ⌝ }
     requires { ⌜ isSide side ≡ true ⌝ }
     ensures { λ r. ⌜ SideFreed (now (s .entry)) (sideOf side) (r .before) (r .after) (now (s .exit)) ⌝ }

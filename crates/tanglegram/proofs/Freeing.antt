@@ -4,18 +4,18 @@ use Prim.Native.Nat.{ℕ, zero, suc, pred, _+_, _≤_, _<_}
 use mathlib.Core.Path.{_≡_, refl, sym, ap, ap₂, _∙_}
 use mathlib.Core.Logic.{_↔_, _⊎_, inl, inr, ⊎-elim}
 use mathlib.Core.Bool.{Bool, true, false, cond, not, true≢false, false≢true}
-use mathlib.Core.List.{List, [], _∷_, List·Permᴰ, Permᴰ·symm}
+use mathlib.Core.List.{List, List·Permᴰ, Permᴰ·symm}
 use native.Mathlib.Omega.{arith}
 use borrow.Author.Tests.{ltb-true, ltb-false}
 use lib.Dec.{ltb}
-use lib.ListN.{length, getD}
+use lib.ListN.{length}
 use lib.Seq.{ext-getD}
 use Rattle.tanglegram.specs.Lists.{Each, range}
 use Rattle.tanglegram.specs.Tree.{Tree, leaf, fork, leaves, rows, EachRow, total}
 use Rattle.tanglegram.specs.Order.{turned, mayChange, flip, byte, Choice}
 use Rattle.tanglegram.specs.Crossings.{between, own, ownAt, cost}
 use Rattle.tanglegram.specs.Freeing.{choose, chooseAt, freed}
-use Rattle.tanglegram.proofs.Lists.{each-map, each-at, each-append, each-mem, each-perm, mem-range, distinct-perm, range-distinct}
+use Rattle.tanglegram.proofs.Lists.{each-map, each-at, each-getD, each-append, each-mem, each-perm, mem-range, distinct-perm, range-distinct}
 use Rattle.tanglegram.proofs.Lists.{range-each}
 use Rattle.tanglegram.proofs.Tree.{eachRow-map, eachRow-rows, each-under}
 use Rattle.tanglegram.proofs.Sums.{across-ext}
@@ -194,7 +194,7 @@ module _ (w : ℕ → ℕ → ℕ) (t : Tree) (m : ℕ) (r : List·Permᴰ (rows
   pub freed-bytes : Each (λ x. x ≤ 1) lay → Each (λ x. x ≤ 1) (freed w t lay)
   freed-bytes b =
       let Small : ℕ → Type 0 = λ i. byte (freed w t lay) i ≤ 1 in
-      let old : (i : ℕ) → byte lay i ≤ 1 = λ i. each-getD (pred i) lay b in
+      let old : (i : ℕ) → byte lay i ≤ 1 = λ i. each-getD (λ x. x ≤ 1) lay (omega arith) b (pred i) in
       let at-rows =
       eachRow-map {Q = λ i u l. Small i} t (λ i u l h. ⊎-elim (λ e. rw e (flip-small (byte lay i))) (λ e. rw e (old i)) h)
       freed-either in
@@ -208,8 +208,3 @@ module _ (w : ℕ → ℕ → ℕ) (t : Tree) (m : ℕ) (r : List·Permᴰ (rows
           go : (b : Bool) → cond b 0 1 ≤ 1
           go true = omega arith
           go false = omega arith
-
-      each-getD : (i : ℕ) (xs : List ℕ) → Each (λ x. x ≤ 1) xs → getD xs i 0 ≤ 1
-      each-getD i [] p = omega arith
-      each-getD zero (x ∷ xs) p = p .0
-      each-getD (suc i) (x ∷ xs) p = each-getD i xs (p .1)

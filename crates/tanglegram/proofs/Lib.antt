@@ -1,3 +1,4 @@
+pub mod Bools
 pub mod Lists
 pub mod Tree
 pub mod Write

@@ -129,6 +129,12 @@ pub each-at : (P : ℕ → Type 0) (xs : List ℕ) → ((i : ℕ) → i < length
 each-at P [] f = tt
 each-at P (x ∷ xs) f = (f 0 (omega arith), each-at P xs (λ i h. f (suc i) (omega arith)))
 
+-- and what holds of each entry, and of 0, holds of what is read at any place
+pub each-getD : (P : ℕ → Type 0) (xs : List ℕ) → P 0 → Each P xs → (i : ℕ) → P (getD xs i 0)
+each-getD P [] z p i = z
+each-getD P (x ∷ xs) z p zero = p .0
+each-getD P (x ∷ xs) z p (suc i) = each-getD P xs z (p .1) i
+
 -- no number is an entry of both of two lists that are apart
 pub apart-mem : (xs ys : List ℕ) → Each (λ x. Each (λ y. x ≢ y) ys) xs → (a : ℕ) → List·Memᴰ a xs → List·Memᴰ a ys → ⊥
 apart-mem xs ys d a m k = each-mem (λ y. a ≢ y) (each-mem (λ x. Each (λ y. x ≢ y) ys) d m) k refl

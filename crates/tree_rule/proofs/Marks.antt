@@ -16,7 +16,7 @@ use Rattle.tanglegram.specs.Tree.{used}
 use Rattle.trees.specs.Rows.{upper, lower, size}
 use Rattle.tree_rule.specs.Rule.{among, first, wrong, breaks, badRow}
 use Rattle.trees.proofs.Table.{upper-place, lower-place}
-use Rattle.tree_rule.proofs.Rule.{or-none}
+use Rattle.tanglegram.proofs.Bools.{or-neither}
 
 -- a mark stands at v
 abbrev pub marked : List ℕ → ℕ → Bool
@@ -106,8 +106,8 @@ module _ (T marks : List ℕ) (i : ℕ) (k : Checked T marks i) (here : i < size
   pub allowed-below : (p : ℕ) → refuses T marks i p ≡ false → getD T p 0 < 1024
   allowed-below p e =
       let v = getD T p 0 in
-      let r = or-none (eqb v 0 || leb (size T + i) v) (marked marks v) e in
-      omega (arith, leb-false (size T + i) v (or-none (eqb v 0) (leb (size T + i) v) (r .0) .1))
+      let r = or-neither (eqb v 0 || leb (size T + i) v) (marked marks v) e in
+      omega (arith, leb-false (size T + i) v (or-neither (eqb v 0) (leb (size T + i) v) (r .0) .1))
 
   -- a row that keeps the rule
   pub checked-more : (getD T (2 * i - 2) 0 ≡ getD T (2 * i - 1) 0 → ⊥) →

@@ -9,6 +9,7 @@ use native.Mathlib.Decide.{ℕ-discrete}
 use native.Mathlib.Omega.{arith}
 use borrow.Author.Tests.{leb-false, lt-leb, eqb-false, ne-eqb}
 use lib.Dec.{leb, eqb}
+use Rattle.tanglegram.proofs.Bools.{or-neither}
 use Rattle.tanglegram.specs.Lists.{Each, range}
 use Rattle.tanglegram.specs.Tree.{used, Row, Rule}
 use Rattle.trees.specs.Rows.{upper, lower, size, Good}
@@ -17,16 +18,11 @@ use Rattle.trees.proofs.Objects.{used-cong}
 
 -- ---- tests
 
--- neither, where not one or the other
-pub or-none : (a b : Bool) → (a || b) ≡ false → (a ≡ false) × (b ≡ false)
-or-none false b e = (refl, e)
-or-none true b e = (e, (cc))
-
 -- v is none of the entries
 among-none : (v : ℕ) (xs : List ℕ) → among v xs ≡ false → Each (λ k. v ≢ k) xs
 unfolding among
 among-none v [] e = tt
-among-none v (x ∷ xs) e = let r = or-none (eqb v x) (among v xs) e in (eqb-false v x (r .0), among-none v xs (r .1))
+among-none v (x ∷ xs) e = let r = or-neither (eqb v x) (among v xs) e in (eqb-false v x (r .0), among-none v xs (r .1))
 
 none-among : (v : ℕ) (xs : List ℕ) → Each (λ k. v ≢ k) xs → among v xs ≡ false
 unfolding among
@@ -69,15 +65,15 @@ module _ (n : ℕ) (up low : ℕ → ℕ) where
 
   allowed : (i v : ℕ) → wrong n up low i v ≡ false → (1 ≤ v) × (v < n + i) × Each (λ k. v ≢ k) (used up low (pred i))
   allowed i v e =
-      let r = or-none (eqb v 0 || leb (n + i) v) (among v (used up low (pred i))) e in
-      let s = or-none (eqb v 0) (leb (n + i) v) (r .0) in
+      let r = or-neither (eqb v 0 || leb (n + i) v) (among v (used up low (pred i))) e in
+      let s = or-neither (eqb v 0) (leb (n + i) v) (r .0) in
       let nonzero = eqb-false v 0 (s .0) in
       (omega arith, leb-false (n + i) v (s .1), among-none v (used up low (pred i)) (r .1))
 
   pub row-kept : (i : ℕ) → breaks n up low i ≡ false → Row n up low i
   row-kept i e =
-      let r = or-none (wrong n up low i (up i) || wrong n up low i (low i)) (eqb (up i) (low i)) e in
-      let s = or-none (wrong n up low i (up i)) (wrong n up low i (low i)) (r .0) in
+      let r = or-neither (wrong n up low i (up i) || wrong n up low i (low i)) (eqb (up i) (low i)) e in
+      let s = or-neither (wrong n up low i (up i)) (wrong n up low i (low i)) (r .0) in
       let u = allowed i (up i) (s .0) in
       let l = allowed i (low i) (s .1) in record {
         upper-least = u .0;

@@ -8,7 +8,9 @@ use native.Mathlib.Omega.{arith}
 use lib.ListN.{length, getD, drop, length-append}
 use lib.Seq.{sets, sets-eq}
 use Rattle.tanglegram.specs.Tree.{leaves}
+use Rattle.tanglegram.specs.Order.{order}
 use Rattle.tanglegram.proofs.Lists.{length-perm, length-range}
+use Rattle.tanglegram.proofs.Order.{order-perm}
 use Rattle.tanglegram.proofs.Tree.{object-leaf, object-fork, leaves-once}
 use Rattle.trees.specs.Rows.{upper, lower, size, objectOf, treeOf, Good}
 use Rattle.trees.proofs.Stores.{sets-append}
@@ -21,6 +23,10 @@ module _ (T : List ℕ) (good : Good T) where
   -- a tree has n leaves
   pub length-leaves : length (leaves (treeOf T)) ≡ size T
   length-leaves = length-perm (leaves-once (size T) (upper T) (lower T) (good .rule) (good .some)) ∙ length-range 1 (size T)
+
+  -- and so many entries each of its orders has
+  pub length-order : (lay : List ℕ) → length (order lay (treeOf T)) ≡ size T
+  length-order lay = length-perm (order-perm lay (treeOf T)) ∙ length-leaves
 
   -- the tree is that of object 2n - 1
   pub last-object : objectOf T (2 * size T - 1) ≡ treeOf T

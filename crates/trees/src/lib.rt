@@ -7,5 +7,6 @@ mod turning;
 pub use leaves::leaf_order;
 pub use noting::note_places;
 pub use turning::exchange;
+pub use turning::flipped;
 pub use turning::is_turned;
 pub use turning::layout_order;

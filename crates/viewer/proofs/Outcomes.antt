@@ -1,10 +1,8 @@
 -- The statements of the calls for C fix their outcomes, since those of the calls themselves do.
 use mathlib.Core.Path.{_≡_, sym, ap, _∙_}
+use Rattle.record.proofs.Outcomes.{same}
 use Rattle.viewer.specs.ForC.{Gives}
 use Rattle.viewer.specs.Outcomes.{Outcomes}
-
-same : {A : Type 0} {a b x : A} → a ≡ x → b ≡ x → a ≡ b
-same p q = p ∙ sym q
 
 -- two answers in one form, of calls that can only have answered alike
 alike : {A B : Type 0} {P Q : A → Type 0} {form : A → B} {x y : B} → ((a b : A) → P a → Q b → a ≡ b) →

@@ -20,14 +20,14 @@ add-at c =
     let h = layout-within _ _ (z .pre .0) (sideOf (z .args .side)) in
     omega (arith, c .layout-at .ensures, z .pre .1)
 
-slice-read-turned-over : tie.Need-slice-read-turned-over
-slice-read-turned-over c =
+slice-read-flipped : tie.Need-slice-read-flipped
+slice-read-flipped c =
     let z = c .before .before .before in
     let h = layout-within _ _ (z .pre .0) (sideOf (z .args .side)) in
     omega (arith, c .before .layout-at .ensures, z .pre .1)
 
-turned-over-requires : tie.Need-turned-over-requires
-turned-over-requires c κs = search needs
+flipped-requires : tie.Need-flipped-requires
+flipped-requires c κs = search needs
 
 slice-write-s : tie.Need-slice-write-s
 slice-write-s c =
@@ -43,7 +43,7 @@ returns c =
     let z = c .before .before .before .before in
     let e = c .before .before .layout-at .ensures in
     let a = z .args in
-    rw (c .turned-over .ensures) (turned-stored _ _ (z .pre .0) (a .side) (a .row) (z .pre .1 .0) (z .pre .1 .1) e refl)
+    rw (c .flipped .ensures) (turned-stored _ _ (z .pre .0) (a .side) (a .row) (z .pre .1 .0) (z .pre .1 .1) e refl)
 
 pub turn-hand-spec : {M : Type 1} → statement M
 turn-hand-spec =
@@ -52,8 +52,8 @@ turn-hand-spec =
     layout-at-requires
     sub-at
     add-at
-    slice-read-turned-over
-    turned-over-requires
+    slice-read-flipped
+    flipped-requires
     slice-write-s
     same-length
     returns)
