@@ -15,7 +15,8 @@ use Rattle.tanglegram.specs.Tree.{Tree, leaf, fork, leaves, rows, EachRo
 use Rattle.tanglegram.specs.Order.{turned, mayChange, flip, byte, Choice}
 use Rattle.tanglegram.specs.Crossings.{between, own, ownAt, cost}
 use Rattle.tanglegram.specs.Freeing.{choose, chooseAt, freed}
-use Rattle.tanglegram.proofs.Lists.{each-map, each-at, each-getD, each-append, each-mem, each-perm, mem-range, distinct-perm, range-distinct}
+use Rattle.tanglegram.proofs.Lists.{each-map, each-at, each-getD, each-append, each-mem, each-perm, mem-range, distinct-perm}
+use Rattle.tanglegram.proofs.Lists.{range-distinct}
 use Rattle.tanglegram.proofs.Lists.{range-each}
 use Rattle.tanglegram.proofs.Tree.{eachRow-map, eachRow-rows, each-under}
 use Rattle.tanglegram.proofs.Sums.{across-ext}
