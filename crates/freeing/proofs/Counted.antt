@@ -15,39 +15,17 @@ use Rattle.tanglegram.specs.Crossings.{across, inverted, between}
 use Rattle.tanglegram.proofs.Lists.{distinct-perm, mem-perm, mem-range, place-below}
 use Rattle.tanglegram.proofs.Tree.{object-fork, leaves-once}
 use Rattle.tanglegram.proofs.Turning.{leaf-product}
-use Rattle.trees.specs.Rows.{upper, lower, size, objectOf, treeOf, Good}
+use Rattle.trees.specs.Rows.{upper, lower, size, objectOf, treeOf, Good, LeafCounts}
+use Rattle.trees.proofs.ByNumber.{row-at}
 use Rattle.trees.proofs.Table.{upper-place, lower-place}
 use Rattle.trees.proofs.Walked.{length-leaves, leaves-leaf}
 use Rattle.leaf_arrays.specs.Arrays.{at, falls}
 use Rattle.leaf_arrays.proofs.OneToOne.{at-place-leaf}
 use Rattle.crossings.proofs.Runs.{across-falls}
 use Rattle.freeing.specs.Row.{Apart, standing, turnedOver, asItStands, theOther}
-use Rattle.freeing.proofs.Under.{pairwise-unmapped, row-at}
+use Rattle.freeing.proofs.Under.{pairwise-unmapped}
 use Rattle.freeing.proofs.Freed.{Own}
 use Rattle.freeing.proofs.Stands.{Stands, Somewhere, stands-both, somewhere-under, together}
-
--- ---- a row's two entries, by the places that the code reads
-
-abbrev pub firstEntry : List ℕ → ℕ → ℕ
-firstEntry W i = getD W (2 * i - 2) 0
-
-abbrev pub secondEntry : List ℕ → ℕ → ℕ
-secondEntry W i = getD W (2 * i - 1) 0
-
-module _ (W : List ℕ) (i : ℕ) (p : 1 ≤ i) where
-  first-entry : firstEntry W i ≡ upper W i
-  first-entry = ap (λ k. getD W k 0) (upper-place i p)
-
-  second-entry : secondEntry W i ≡ lower W i
-  second-entry = ap (λ k. getD W k 0) (lower-place i p)
-
--- they are objects made before
-module _ (W : List ℕ) (good : Good W) (i : ℕ) (p : 1 ≤ i) (q : i < size W) where
-  pub first-below : (1 ≤ firstEntry W i) × (firstEntry W i < size W + i)
-  first-below = let c = good .rule i p q in rw (first-entry W i p) (omega arith)
-
-  pub second-below : (1 ≤ secondEntry W i) × (secondEntry W i < size W + i)
-  second-below = let c = good .rule i p q in rw (second-entry W i p) (omega arith)
 
 -- ---- the far places under each object
 
@@ -62,7 +40,6 @@ some-leaf (fork i u l) = omega (arith, some-leaf u, length-append (leaves u) (le
 -- where they stand is noted for the objects below `top`
 pub record Noted (far W seen from many : List ℕ) (top : ℕ) : Type 0 where
   pub from-long : length from ≡ 1024
-  pub many-long : length many ≡ 1024
   pub noted : (o : ℕ) → 1 ≤ o → o < top → Stands seen (size W) (farUnder far W o) (getD from o 0) (getD many o 0)
 
 -- a row's two parts, one after the other
@@ -150,21 +127,21 @@ module _ (W : List ℕ) (good : Good W) (far : List ℕ) (apart : Apart (size W)
           stand = ap (take 1) (drop-cons seen k 0 (omega (arith, room))) ∙ ap (λ x. x ∷ []) here ∙ sym one;
         }
 
-    pub noted-leaves : (from : List ℕ) → length from ≡ 1024 →
-        ((v : ℕ) → v ≤ size W → getD from v 0 ≡ place (leaves (treeOf W)) v) →
-        Noted far W seen from (replicate {A = ℕ} 1024 1) (size W + 1)
-    noted-leaves from h e = record {
+    pub noted-leaves : (from many : List ℕ) → length from ≡ 1024 →
+        ((v : ℕ) → v ≤ size W → getD from v 0 ≡ place (leaves (treeOf W)) v) → LeafCounts W many →
+        Noted far W seen from many (size W + 1)
+    noted-leaves from many h e counts = record {
       from-long = h;
-      many-long = length-replicate {A = ℕ} 1024 1;
       noted = λ o p q.
-          let most = good .most in
-          rw (e o (omega arith), getD-replicate {A = ℕ} 1024 o 1 0 (omega arith)) (leaf-stands o p (omega arith));
+          let some = good .some in
+          let one = counts .counts o p (omega arith) ∙ ap length (leaves-leaf W good o (omega arith)) in
+          rw (e o (omega arith), one) (leaf-stands o p (omega arith));
     }
 
     -- ---- one row more
 
     module _ (from many : List ℕ) (i : ℕ) (p : 1 ≤ i) (q : i < size W) (before : Noted far W seen from many (size W + i))
-        (a b : ℕ) (is-a : a ≡ firstEntry W i) (is-b : b ≡ secondEntry W i) where
+        (a b : ℕ) (is-a : a ≡ upper W i) (is-b : b ≡ lower W i) where
       abbrev us : List ℕ
       us = farUnder far W (upper W i)
 
@@ -182,14 +159,13 @@ module _ (W : List ℕ) (good : Good W) (far : List ℕ) (apart : Apart (size W)
 
       first-stands : Stands seen (size W) us k first
       first-stands =
-          let below : (1 ≤ a) × (a < size W + i) = rw is-a (first-below W good i p q) in
-          subst (λ o. Stands seen (size W) (farUnder far W o) k first) (is-a ∙ first-entry W i p) (before .noted a (below .0) (below .1))
+          let c = good .rule i p q in
+          subst (λ o. Stands seen (size W) (farUnder far W o) k first) is-a (before .noted a (omega arith) (omega arith))
 
       second-stands : Stands seen (size W) ls (getD from b 0) second
       second-stands =
-          let below : (1 ≤ b) × (b < size W + i) = rw is-b (second-below W good i p q) in
-          subst (λ o. Stands seen (size W) (farUnder far W o) (getD from b 0) second) (is-b ∙ second-entry W i p)
-          (before .noted b (below .0) (below .1))
+          let c = good .rule i p q in
+          subst (λ o. Stands seen (size W) (farUnder far W o) (getD from b 0) second) is-b (before .noted b (omega arith) (omega arith))
 
       both-stand : Stands seen (size W) (us ++ ls) k (first + second)
       both-stand =
@@ -222,27 +198,24 @@ module _ (W : List ℕ) (good : Good W) (far : List ℕ) (apart : Apart (size W)
                 mul-le-mul p q;
           }
 
-      pub noted-more :
-          Noted far W seen (set from (size W + i) k) (set many (size W + i) (first + second)) (size W + (i + 1))
-      noted-more = record {
+      pub noted-more : LeafCounts W many → Noted far W seen (set from (size W + i) k) many (size W + (i + 1))
+      noted-more counts = record {
         from-long = simp length-set (before .from-long);
-        many-long = simp length-set (before .many-long);
         noted = λ o c d. go o c d (ℕ-discrete o (size W + i));
       }
         where
+          made : getD many (size W + i) 0 ≡ first + second
+          made =
+              counts .counts (size W + i) (omega arith) (omega arith)
+              ∙ sym (simp length-map refl)
+              ∙ ap length (far-fork i p q)
+              ∙ length-append us ls
+              ∙ sym (ap₂ _+_ (first-stands .many) (second-stands .many))
+
           go : (o : ℕ) → 1 ≤ o → o < size W + (i + 1) → Dec (o ≡ size W + i) →
-              Stands seen (size W) (farUnder far W o) (getD (set from (size W + i) k) o 0)
-              (getD (set many (size W + i) (first + second)) o 0)
+              Stands seen (size W) (farUnder far W o) (getD (set from (size W + i) k) o 0) (getD many o 0)
           go o c d (yes e) =
               let most = good .most in
               let f = before .from-long in
-              let g = before .many-long in
-              rw (
-                e,
-                getD-set-same from (size W + i) k 0 (omega arith),
-                getD-set-same many (size W + i) (first + second) 0 (omega arith),
-                far-fork i p q,
-              ) both-stand
-          go o c d (no e) =
-              rw (getD-set-other from (size W + i) o k 0 e, getD-set-other many (size W + i) o (first + second) 0 e)
-              (before .noted o c (omega arith))
+              rw (e, getD-set-same from (size W + i) k 0 (omega arith), made, far-fork i p q) both-stand
+          go o c d (no e) = rw (getD-set-other from (size W + i) o k 0 e) (before .noted o c (omega arith))

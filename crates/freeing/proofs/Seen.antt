@@ -1,9 +1,9 @@
--- The tree's order in the first places of an array, and the far places of its leaves' links written over it.
+-- The tree's order in the first places of an array, and the far places of its leaves' links written over a copy of it.
 use Prim.Native.Nat.{ℕ}
 use mathlib.Core.Path.{_≡_, ap, _∙_}
-use mathlib.Core.List.{List, _++_, map}
+use mathlib.Core.List.{List, map}
 use native.Mathlib.Omega.{arith}
-use lib.ListN.{length, take, drop, replicate, length-append, length-drop, length-map}
+use lib.ListN.{length, take, drop, length-append, length-drop, length-map}
 use lib.Seq.{take-at}
 use Rattle.tanglegram.specs.Lists.{Each}
 use Rattle.tanglegram.specs.Tree.{leaves}
@@ -13,28 +13,19 @@ use Rattle.trees.specs.Rows.{upper, lower, size, treeOf, Good}
 use Rattle.trees.proofs.Walked.{length-leaves}
 use Rattle.leaf_arrays.specs.Arrays.{Leaf, along, at}
 use Rattle.leaf_arrays.proofs.OneToOne.{perm-leaves}
+use Rattle.freeing.specs.Row.{InOrder}
 
-module _ (W : List ℕ) (good : Good W) (order : List ℕ) (is : order ≡ leaves (treeOf W) ++ drop (size W) (replicate 512 0)) where
-  pub order-long : length order ≡ 512
-  order-long =
-      let rest : List ℕ = drop (size W) (replicate 512 0) in
-      let most = good .most in
-      ap length is
-      ∙ omega (arith, length-append (leaves (treeOf W)) rest, length-leaves W good, length-drop (size W) (replicate {A = ℕ} 512 0))
-
-  pub order-first : take (size W) order ≡ leaves (treeOf W)
-  order-first = ap (take (size W)) is ∙ take-at (leaves (treeOf W)) (drop (size W) (replicate 512 0)) (size W) (length-leaves W good)
-
+module _ (W : List ℕ) (good : Good W) (order : List ℕ) (is : InOrder W order) where
   pub order-leaves : Each (Leaf 512) (take (size W) order)
   order-leaves =
       let most = good .most in
-      rw order-first
+      rw (is .first)
       (each-map (leaves (treeOf W)) (λ a l. (l .0, omega (arith, l .1)))
       (perm-leaves (size W) (leaves (treeOf W)) (leaves-once (size W) (upper W) (lower W) (good .rule) (good .some))))
 
   module _ (far seen : List ℕ) (over : seen ≡ along (at far) (size W) order) where
     far-long : length (map (at far) (take (size W) order)) ≡ size W
-    far-long = simp length-map (ap length order-first ∙ length-leaves W good)
+    far-long = simp length-map (ap length (is .first) ∙ length-leaves W good)
 
     pub seen-long : length seen ≡ 512
     seen-long =
@@ -45,10 +36,10 @@ module _ (W : List ℕ) (good : Good W) (order : List ℕ) (is : order ≡ leave
           length-append (map (at far) (take (size W) order)) (drop (size W) order),
           far-long,
           length-drop (size W) order,
-          order-long,
+          is .long,
         )
 
     pub seen-first : take (size W) seen ≡ map (at far) (leaves (treeOf W))
     seen-first =
         ap (take (size W)) over ∙ take-at (map (at far) (take (size W) order)) (drop (size W) order) (size W) far-long
-        ∙ ap (map (at far)) order-first
+        ∙ ap (map (at far)) (is .first)

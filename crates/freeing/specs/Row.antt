@@ -1,23 +1,29 @@
--- The rows of a side that is freed: what is asked of the links, whether turning a row over gains, its byte afterwards, and the rows' own
--- crossings summed.
+-- The rows of a side that is freed: what is asked of the arrays, whether a row is turned over, its byte and its entries afterwards, and
+-- the rows' own crossings summed.
 use Prim.Native.Nat.{ℕ, pred, _+_, _≤_, _<_}
 use mathlib.Core.Path.{_≡_}
 use mathlib.Core.Bool.{Bool, cond, _&&_}
 use mathlib.Core.List.{List, map}
 use lib.Dec.{ltb}
-use lib.ListN.{length, take, drop}
+use lib.ListN.{length, set, take, drop}
 use Rattle.tanglegram.specs.Lists.{Each, Distinct, range}
 use Rattle.tanglegram.specs.Order.{byte, mayChange, flip}
-use Rattle.tanglegram.specs.Tree.{Tree}
+use Rattle.tanglegram.specs.Tree.{leaves}
 use Rattle.tanglegram.specs.Crossings.{across, between, cost}
 use Rattle.tanglegram.specs.Freeing.{freed}
 use Rattle.tanglegram.specs.Entanglement.{sum}
-use Rattle.trees.specs.Rows.{upper, lower, size, objectOf}
+use Rattle.trees.specs.Rows.{upper, lower, size, objectOf, treeOf}
+use Rattle.trees.specs.Exchange.{exchangedAt, Exchanges, givenTree, LaidOut}
 use Rattle.leaf_arrays.specs.Arrays.{at, falls}
 
 -- The links of leaves 1 to n end at places below 512, each at another, by the array of these places.
 abbrev pub Apart : ℕ → List ℕ → Type 0
 Apart n far = Each (λ a. at far a < 512) (range 1 n) × Distinct (map (at far) (range 1 n))
+
+-- An array has a table's leaves in its first places.
+pub record InOrder (W order : List ℕ) : Type 0 where
+  pub long : length order ≡ 512
+  pub first : take (size W) order ≡ leaves (treeOf W)
 
 -- The own crossings of row i of a table as it stands, upper's leaves before lower's, and turned over.
 abbrev pub standing : (ℕ → ℕ → ℕ) → List ℕ → ℕ → ℕ
@@ -25,10 +31,6 @@ standing w T i = between w (objectOf T (upper T i)) (objectOf T (lower T i))
 
 abbrev pub turnedOver : (ℕ → ℕ → ℕ) → List ℕ → ℕ → ℕ
 turnedOver w T i = between w (objectOf T (lower T i)) (objectOf T (upper T i))
-
--- Turning row i over makes them strictly fewer.
-abbrev pub gain : (ℕ → ℕ → ℕ) → List ℕ → ℕ → Bool
-gain w T i = ltb (turnedOver w T i) (standing w T i)
 
 -- The crossings of two runs of links by their far places, `first` of them from index `at` on and `second` right after: as they stand, and
 -- the other way round.
@@ -38,30 +40,50 @@ asItStands seen at first second = across falls (take first (drop at seen)) (take
 abbrev pub theOther : List ℕ → ℕ → ℕ → ℕ → ℕ
 theOther seen at first second = across falls (take second (drop (at + first) seen)) (take first (drop at seen))
 
--- A row's byte after freeing, from its present byte and whether turning it over gains: `choose` of `tanglegram` is this at its test.
+-- Freeing turns a row over, from its byte and its own crossings as it stands and turned over: if the byte may change, and that makes
+-- them strictly fewer.
+abbrev pub turnsOver : ℕ → ℕ → ℕ → Bool
+turnsOver x count other = mayChange x && ltb other count
+
+-- Its byte, and its own crossings, after freeing: `choose` of `tanglegram` is this byte at its test.
 abbrev pub byteAfter : ℕ → Bool → ℕ
-byteAfter x gains = cond (mayChange x && gains) (flip x) x
+byteAfter x turns = cond turns (flip x) x
 
--- Its own crossings after freeing, from those as it stands, those turned over, and whether turning it over gains.
 abbrev pub countAfter : ℕ → ℕ → Bool → ℕ
-countAfter count other gains = cond gains other count
+countAfter count other turns = cond turns other count
 
-abbrev pub fewest : (ℕ → ℕ → ℕ) → List ℕ → ℕ → ℕ
-fewest w T i = countAfter (standing w T i) (turnedOver w T i) (gain w T i)
+-- One row decided, in a table and in its layout.
+pub record Decided (turns : Bool) (W lay : List ℕ) (row count other answer : ℕ) (W′ lay′ : List ℕ) : Type 0 where
+  pub answers : answer ≡ countAfter count other turns
+  pub rows : W′ ≡ cond turns (exchangedAt W row) W
+  pub bytes : lay′ ≡ cond turns (set lay (pred row) (flip (byte lay row))) lay
+
+abbrev pub Decides : List ℕ → List ℕ → ℕ → ℕ → ℕ → ℕ → List ℕ → List ℕ → Type 0
+Decides W lay row count other = Decided (turnsOver (byte lay row) count other) W lay row count other
+
+-- Row i of a table that has a layout applied: whether freeing turns it over, and its own crossings after freeing.
+abbrev pub gain : (ℕ → ℕ → ℕ) → List ℕ → List ℕ → ℕ → Bool
+gain w W lay i = turnsOver (byte lay i) (standing w W i) (turnedOver w W i)
+
+abbrev pub fewest : (ℕ → ℕ → ℕ) → List ℕ → List ℕ → ℕ → ℕ
+fewest w W lay i = countAfter (standing w W i) (turnedOver w W i) (gain w W lay i)
 
 -- The sum of f over the rows before row i.
 abbrev pub sumTo : (ℕ → ℕ) → ℕ → ℕ
 sumTo f i = sum f (range 1 (pred i))
 
--- Each row has its byte after freeing, by its own crossings in a table, and these are summed, as they stand and after freeing.
-pub record Frees (w : ℕ → ℕ → ℕ) (T old new : List ℕ) (before after : ℕ) : Type 0 where
-  pub long : length new ≡ length old
-  pub bytes : (i : ℕ) → 1 ≤ i → i < size T → byte new i ≡ byteAfter (byte old i) (gain w T i)
-  pub counted : before ≡ sumTo (standing w T) (size T)
-  pub recounted : after ≡ sumTo (fewest w T) (size T)
+-- Each row is decided, by its own crossings in a table that has the layout applied, and these are summed.
+pub record Frees (w : ℕ → ℕ → ℕ) (W lay : List ℕ) (before after : ℕ) (W′ lay′ : List ℕ) : Type 0 where
+  pub long : length lay′ ≡ length lay
+  pub bytes : (i : ℕ) → 1 ≤ i → i < size W → byte lay′ i ≡ byteAfter (byte lay i) (gain w W lay i)
+  pub same-size : size W′ ≡ size W
+  pub rows : (i : ℕ) → 1 ≤ i → i < size W → Exchanges (gain w W lay i) (upper W i) (lower W i) (upper W′ i) (lower W′ i)
+  pub counted : before ≡ sumTo (standing w W) (size W)
+  pub recounted : after ≡ sumTo (fewest w W lay) (size W)
 
--- A side is freed: the layout it leaves, and the sums of its rows' own crossings before and after.
-pub record RowsFreed (w : ℕ → ℕ → ℕ) (t : Tree) (old new : List ℕ) (before after : ℕ) : Type 0 where
-  pub leaves : new ≡ freed w t old
-  pub counted : before ≡ cost w old t
-  pub recounted : after ≡ cost w (freed w t old) t
+-- A side in memory is freed: its layout, the sums of its rows' own crossings before and after, and its table with that layout applied.
+pub record RowsFreed (w : ℕ → ℕ → ℕ) (W lay : List ℕ) (before after : ℕ) (W′ lay′ : List ℕ) : Type 0 where
+  pub leaves : lay′ ≡ freed w (givenTree W lay) lay
+  pub counted : before ≡ cost w lay (givenTree W lay)
+  pub recounted : after ≡ cost w lay′ (givenTree W lay)
+  pub laid : LaidOut (givenTree W lay) (size W) lay′ W′

@@ -1,5 +1,5 @@
--- A table with a layout applied: it has the rows of the table, each with its entries exchanged where the layout turns it, so it keeps
--- the tree rule, and its leaves stand in the layout's order.
+-- Rows with their entries exchanged where a layout turns them keep the tree rule, and their leaves stand in the layout's order; and a
+-- table in which they were exchanged one after the other has these rows.
 use Prim.Native.Nat.{ℕ, zero, suc, pred, _+_, _-_, _*_, _≤_, _<_}
 use mathlib.Core.Path.{_≡_, refl, sym, ap, ap₂, _∙_}
 use mathlib.Core.Bool.{Bool, true, false, cond}
@@ -15,23 +15,20 @@ use Rattle.tanglegram.specs.Tree.{leaves, used, object, Row, Rule}
 use Rattle.tanglegram.specs.Order.{byte, turned, order}
 use Rattle.tanglegram.proofs.Tree.{object-leaf, object-fork}
 use Rattle.trees.specs.Rows.{upper, lower, size, objectOf, treeOf, Good}
-use Rattle.trees.specs.Exchange.{exchangedAt, exchangedTo, exchanged}
+use Rattle.trees.specs.Exchange.{exchangedAt, exchangedTo, exchanged, Exchanges, Laid}
 use Rattle.trees.proofs.Table.{table-long}
 
 -- ---- rows as functions
 
--- u′ and l′ are u and l, exchanged where b
-abbrev pub Exchanges : Bool → ℕ → ℕ → ℕ → ℕ → Type 0
-Exchanges b u l u′ l′ = (u′ ≡ cond b l u) × (l′ ≡ cond b u l)
-
-module _ (n : ℕ) (up low up′ low′ : ℕ → ℕ) (lay : List ℕ) (rule : Rule n up low)
-    (entries : (i : ℕ) → 1 ≤ i → i < n → Exchanges (turned (byte lay i)) (up i) (low i) (up′ i) (low′ i)) where
+-- each row's entries exchanged where g
+module _ (n : ℕ) (up low up′ low′ : ℕ → ℕ) (g : ℕ → Bool) (rule : Rule n up low)
+    (entries : (i : ℕ) → 1 ≤ i → i < n → Exchanges (g i) (up i) (low i) (up′ i) (low′ i)) where
   -- the same objects are used
   used-exchanged : (P : ℕ → Type 0) (m : ℕ) → m < n → Each P (used up low m) → Each P (used up′ low′ m)
   unfolding used
   used-exchanged P zero h p = tt
   used-exchanged P (suc m) h p =
-      go (turned (byte lay (suc m))) (entries (suc m) (omega arith) h) (used-exchanged P m (omega arith) (p .1 .1))
+      go (g (suc m)) (entries (suc m) (omega arith) h) (used-exchanged P m (omega arith) (p .1 .1))
     where
       go : (b : Bool) → Exchanges b (up (suc m)) (low (suc m)) (up′ (suc m)) (low′ (suc m)) → Each P (used up′ low′ m) →
           P (up′ (suc m)) × (P (low′ (suc m)) × Each P (used up′ low′ m))
@@ -39,7 +36,7 @@ module _ (n : ℕ) (up low up′ low′ : ℕ → ℕ) (lay : List ℕ) (rule : 
       go false e r = (rw (e .0) (p .0), (rw (e .1) (p .1 .0), r))
 
   pub exchanged-rule : Rule n up′ low′
-  exchanged-rule i p q = go (turned (byte lay i)) (entries i p q) (rule i p q)
+  exchanged-rule i p q = go (g i) (entries i p q) (rule i p q)
     where
       kept : (v : ℕ) → Each (λ k. v ≢ k) (used up low (pred i)) → Each (λ k. v ≢ k) (used up′ low′ (pred i))
       kept v = used-exchanged (λ k. v ≢ k) (pred i) (omega arith)
@@ -64,15 +61,21 @@ module _ (n : ℕ) (up low up′ low′ : ℕ → ℕ) (lay : List ℕ) (rule : 
         lower-new = rw (e .1) (kept (low i) (c .lower-new));
       }
 
+-- where the layout turns it
+module _ (n : ℕ) (up low up′ low′ : ℕ → ℕ) (lay : List ℕ) (rule : Rule n up low)
+    (entries : (i : ℕ) → 1 ≤ i → i < n → Exchanges (turned (byte lay i)) (up i) (low i) (up′ i) (low′ i)) where
+  kept-rule : Rule n up′ low′
+  kept-rule = exchanged-rule n up low up′ low′ (λ i. turned (byte lay i)) rule entries
+
   leaf-case : (k : ℕ) → k ≤ n → leaves (object up′ low′ n k) ≡ order lay (object up low n k)
   unfolding leaves order
-  leaf-case k h = rw (object-leaf n up′ low′ exchanged-rule k h, object-leaf n up low rule k h) refl
+  leaf-case k h = rw (object-leaf n up′ low′ kept-rule k h, object-leaf n up low rule k h) refl
 
   fork-case : (i : ℕ) → 1 ≤ i → i < n → ((j : ℕ) → j < n + i → leaves (object up′ low′ n j) ≡ order lay (object up low n j)) →
       leaves (object up′ low′ n (n + i)) ≡ order lay (object up low n (n + i))
   unfolding leaves order
   fork-case i p q r =
-      rw (object-fork n up′ low′ exchanged-rule i p q, object-fork n up low rule i p q)
+      rw (object-fork n up′ low′ kept-rule i p q, object-fork n up low rule i p q)
       (go (turned (byte lay i)) (entries i p q) (rule i p q))
     where
       go : (b : Bool) → Exchanges b (up i) (low i) (up′ i) (low′ i) → Row n up low i →
@@ -101,7 +104,7 @@ module _ (n : ℕ) (up low up′ low′ : ℕ → ℕ) (lay : List ℕ) (rule : 
 
 -- after row i's entries are exchanged
 module _ (T : List ℕ) (i : ℕ) where
-  exchangedAt-row : 2 * pred i + 1 < length T → (upper (exchangedAt T i) i ≡ lower T i) × (lower (exchangedAt T i) i ≡ upper T i)
+  pub exchangedAt-row : 2 * pred i + 1 < length T → (upper (exchangedAt T i) i ≡ lower T i) × (lower (exchangedAt T i) i ≡ upper T i)
   exchangedAt-row h =
       let a = 2 * pred i in
       let R = set T a (lower T i) in (
@@ -109,7 +112,7 @@ module _ (T : List ℕ) (i : ℕ) where
         getD-set-same R (a + 1) (upper T i) 0 (omega (arith, length-set T a (lower T i))),
       )
 
-  exchangedAt-other : (p : ℕ) → p ≢ 2 * pred i → p ≢ 2 * pred i + 1 → getD (exchangedAt T i) p 0 ≡ getD T p 0
+  pub exchangedAt-other : (p : ℕ) → p ≢ 2 * pred i → p ≢ 2 * pred i + 1 → getD (exchangedAt T i) p 0 ≡ getD T p 0
   exchangedAt-other p h k =
       let a = 2 * pred i in
       getD-set-other (set T a (lower T i)) (a + 1) p (upper T i) 0 k ∙ getD-set-other T a p (lower T i) 0 h
@@ -187,40 +190,10 @@ module _ (T lay : List ℕ) where
 
   -- ---- the whole table
 
-  module _ (good : Good T) where
-    pub exchanged-size : size (exchanged T lay) ≡ size T
-    unfolding exchanged
-    exchanged-size = let most = good .most in exchangedTo-past (pred (size T)) 1022 (omega arith)
-
-    pub exchanged-row : (i : ℕ) → 1 ≤ i → i < size T →
-        Exchanges (turned (byte lay i)) (upper T i) (lower T i) (upper (exchanged T lay) i) (lower (exchanged T lay) i)
-    unfolding exchanged
-    exchanged-row i p q =
-        let most = good .most in
-        exchangedTo-row (pred (size T)) i (omega (arith, table-long T (good .some))) p (omega arith)
-
-    pub exchanged-good : Good (exchanged T lay)
-    exchanged-good = record {
-      some = rw exchanged-size (good .some);
-      most = rw exchanged-size (good .most);
-      rule =
-          rw exchanged-size
-          (exchanged-rule (size T) (upper T) (lower T) (upper (exchanged T lay)) (lower (exchanged T lay)) lay (good .rule) exchanged-row);
-    }
-
-    -- the leaves under an object of the exchanged table stand in the layout's order
-    pub exchanged-object : (k : ℕ) → k < 2 * size T → leaves (objectOf (exchanged T lay) k) ≡ order lay (objectOf T k)
-    exchanged-object k h =
-        let E = exchanged T lay in
-        rw exchanged-size
-        (exchanged-leaves (size T) (upper T) (lower T) (upper E) (lower E) lay (good .rule) exchanged-row k (omega arith))
-
-    pub exchanged-tree : leaves (treeOf (exchanged T lay)) ≡ order lay (treeOf T)
-    exchanged-tree =
-        let some = good .some in
-        rw exchanged-size (rw exchanged-size at (exchanged-object (size T + pred (size T)) (omega arith)))
-
-    -- the exchanged table's leaves written out are the layout's order
-    pub exchanged-written : (out : List ℕ) →
-        leaves (treeOf (exchanged T lay)) ++ drop (size (exchanged T lay)) out ≡ order lay (treeOf T) ++ drop (size T) out
-    exchanged-written out = ap₂ (λ x m. x ++ drop m out) exchanged-tree exchanged-size
+  pub exchanged-laid : Good T → Laid T lay (exchanged T lay)
+  unfolding exchanged
+  exchanged-laid good =
+      let most = good .most in record {
+        same-size = exchangedTo-past (pred (size T)) 1022 (omega arith);
+        entries = λ i p q. exchangedTo-row (pred (size T)) i (omega (arith, table-long T (good .some))) p (omega arith);
+      }

@@ -2,5 +2,8 @@ pub mod Table
 pub mod Stores
 pub mod Objects
 pub mod Walked
+pub mod ByNumber
+pub mod LeafCounts
 pub mod Exchanged
+pub mod Laid
 pub mod Places

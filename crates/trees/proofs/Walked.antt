@@ -13,7 +13,7 @@ use Rattle.tanglegram.proofs.Lists.{length-perm, length-range}
 use Rattle.tanglegram.proofs.Order.{order-perm}
 use Rattle.tanglegram.proofs.Tree.{object-leaf, object-fork, leaves-once}
 use Rattle.trees.specs.Rows.{upper, lower, size, objectOf, treeOf, Good}
-use Rattle.trees.proofs.Stores.{sets-append}
+use Rattle.trees.proofs.Stores.{sets-append, sets-comm}
 
 module _ (T : List ℕ) (good : Good T) where
   pub leaves-leaf : (k : ℕ) → k ≤ size T → leaves (objectOf T k) ≡ k ∷ []
@@ -79,3 +79,11 @@ module _ (T : List ℕ) (good : Good T) where
         sets (sets out at (leaves (objectOf T upperOf))) (at + length (leaves (objectOf T upperOf))) (leaves (objectOf T lowerOf))
         ≡ sets out at (leaves (objectOf T k))
     sets-fork out at = rw leaves-fork (sym (sets-append (leaves (objectOf T upperOf)) (leaves (objectOf T lowerOf)) out at))
+
+    -- the lower one's first, and then the upper one's
+    pub sets-fork-back : (out : List ℕ) (at : ℕ) →
+        sets (sets out (at + length (leaves (objectOf T upperOf))) (leaves (objectOf T lowerOf))) at (leaves (objectOf T upperOf))
+        ≡ sets out at (leaves (objectOf T k))
+    sets-fork-back out at =
+        let A = leaves (objectOf T upperOf) in
+        sym (sets-comm A (leaves (objectOf T lowerOf)) out at (at + length A) (omega arith)) ∙ sets-fork out at

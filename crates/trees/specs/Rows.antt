@@ -1,9 +1,10 @@
 -- A tree's rows as a table, a list of 1023 numbers: row i has its upper entry at place 2(i - 1) and its lower one right after it, and the
 -- last place holds n. What stands between the rows and the last place plays no part.
-use Prim.Native.Nat.{ℕ, pred, _+_, _*_, _≤_}
+use Prim.Native.Nat.{ℕ, pred, _+_, _*_, _≤_, _<_}
+use mathlib.Core.Path.{_≡_}
 use mathlib.Core.List.{List}
-use lib.ListN.{getD}
-use Rattle.tanglegram.specs.Tree.{Tree, object, tree, Rule}
+use lib.ListN.{length, getD}
+use Rattle.tanglegram.specs.Tree.{Tree, leaves, object, tree, Rule}
 
 -- The two entries of row i.
 abbrev pub upper : List ℕ → ℕ → ℕ
@@ -28,3 +29,8 @@ pub record Good (T : List ℕ) : Type 0 where
   pub some : 1 ≤ size T
   pub most : size T ≤ 512
   pub rule : Rule (size T) (upper T) (lower T)
+
+-- How many leaves stand under each object of a table, noted by its number.
+pub record LeafCounts (T many : List ℕ) : Type 0 where
+  pub long : length many ≡ 1024
+  pub counts : (o : ℕ) → 1 ≤ o → o < 2 * size T → getD many o 0 ≡ length (leaves (objectOf T o))

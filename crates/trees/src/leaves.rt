@@ -1,41 +1,85 @@
-// Leaf orders: the leaves under an object, upper before lower. The walk goes over arrays of fixed length, since a
-// reference to one is a single word, so that each call takes little of the stack.
+// Leaf orders: the leaves under an object, upper before lower. The walk enters the part with fewer leaves first, so that
+// the other call is a jump and at most ten are open at a time; and it goes over arrays of fixed length, since a
+// reference to one is a single word. So it takes little of the stack, however deep the tree is.
 ghost use mathlib.Core.Path.{_≡_};
 ghost use Prim.Native.Nat.{_+_, _*_, _≤_, _<_};
 ghost use mathlib.Core.List.{_++_};
-ghost use lib.ListN.{length, drop};
+ghost use lib.ListN.{length, drop, replicate};
 ghost use lib.Seq.{sets};
 ghost use Rattle.tanglegram.specs.Tree.{leaves};
-ghost use Rattle.trees.specs.Rows.{Good, size, objectOf, treeOf};
+ghost use Rattle.trees.specs.Rows.{Good, LeafCounts, size, objectOf, treeOf};
 
-// Writes the leaves under object obj into out from place `at` on, and returns the place after them.
-pub fn walk(tab: &[u16; 1023], obj: u16, out: &mut [u16; 512], at: usize) -> usize
+// An entry as an index.
+fn wide(x: u16) -> usize
+    ensures { λ r. ⌜ r ≡ x ⌝ }
+{
+    x as usize
+}
+
+// Notes how many leaves each object has: one, if it is a leaf, or those of its two children.
+pub fn count_leaves(tab: &[u16; 1023], many: &mut [u16; 1024])
     requires { ⌜ Good (now tab) ⌝ }
+    requires { ⌜ now many ≡ replicate 1024 1 ⌝ }
+    ensures { λ _. ⌜ LeafCounts (now (tab .entry)) (now (many .exit)) ⌝ }
+{
+    let n = tab[1022] as usize;
+    let mut i = 1;
+    while i < n {
+        let a = wide(tab[2 * i - 2]);
+        let b = wide(tab[2 * i - 1]);
+        many[n + i] = many[a] + many[b];
+        i += 1;
+    }
+}
+
+// Writes the leaves under object obj into out from place `at` on.
+fn walk(tab: &[u16; 1023], many: &[u16; 1024], obj: u16, out: &mut [u16; 512], at: usize)
+    requires { ⌜ Good (now tab) × LeafCounts (now tab) (now many) ⌝ }
     requires { ⌜ (1 ≤ obj) × (obj < 2 * size (now tab)) ⌝ }
     requires { ⌜ at + length (leaves (objectOf (now tab) obj)) ≤ 512 ⌝ }
-    ensures { λ r. ⌜ r ≡ at + length (leaves (objectOf (now (tab .entry)) obj)) ⌝ }
     ensures { λ _. ⌜ now (out .exit) ≡ sets (now (out .entry)) at (leaves (objectOf (now (tab .entry)) obj)) ⌝ }
 {
     let n = tab[1022] as usize;
     let o = obj as usize;
     if o <= n {
         out[at] = obj;
-        return at + 1;
+        return;
     }
     let i = o - n - 1;
     let a = tab[2 * i];
     let b = tab[2 * i + 1];
-    let mid = walk(tab, a, out, at);
-    walk(tab, b, out, mid)
+    let first = many[a as usize] as usize;
+    let second = many[b as usize] as usize;
+    let mid = at + first;
+    if first <= second {
+        walk(tab, many, a, out, at);
+        walk(tab, many, b, out, mid);
+    } else {
+        walk(tab, many, b, out, mid);
+        walk(tab, many, a, out, at);
+    }
 }
 
-// Writes the tree's leaves into out's first n places, and leaves the others as they are.
+// Writes the tree's leaves into out's first n places, and leaves the others as they are; `many` has the leaves under
+// each object, counted.
+pub fn counted_order(tab: &[u16; 1023], many: &[u16; 1024], out: &mut [u16; 512])
+    requires { ⌜ Good (now tab) × LeafCounts (now tab) (now many) ⌝ }
+    requires { ⌜ length (now out) ≡ 512 ⌝ }
+    ensures { λ _. ⌜ now (out .exit)
+        ≡ leaves (treeOf (now (tab .entry))) ++ drop (size (now (tab .entry))) (now (out .entry)) ⌝ }
+{
+    let n = tab[1022];
+    walk(tab, many, 2 * n - 1, out, 0);
+}
+
+// The same, counting the leaves under each object first.
 pub fn leaf_order(tab: &[u16; 1023], out: &mut [u16; 512])
     requires { ⌜ Good (now tab) ⌝ }
     requires { ⌜ length (now out) ≡ 512 ⌝ }
     ensures { λ _. ⌜ now (out .exit)
         ≡ leaves (treeOf (now (tab .entry))) ++ drop (size (now (tab .entry))) (now (out .entry)) ⌝ }
 {
-    let n = tab[1022];
-    walk(tab, 2 * n - 1, out, 0);
+    let mut many = [1u16; 1024];
+    count_leaves(tab, &mut many);
+    counted_order(tab, &many, out);
 }

@@ -4,9 +4,12 @@ mod leaves;
 mod noting;
 mod turning;
 
+pub use leaves::count_leaves;
+pub use leaves::counted_order;
 pub use leaves::leaf_order;
 pub use noting::note_places;
 pub use turning::exchange;
 pub use turning::flipped;
 pub use turning::is_turned;
 pub use turning::layout_order;
+pub use turning::may_change;

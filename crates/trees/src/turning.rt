@@ -3,7 +3,7 @@ ghost use mathlib.Core.Path.{_≡_};
 ghost use Prim.Native.Nat.{_+_, _≤_};
 ghost use mathlib.Core.List.{_++_};
 ghost use lib.ListN.{length, drop};
-ghost use Rattle.tanglegram.specs.Order.{flip, turned, order};
+ghost use Rattle.tanglegram.specs.Order.{flip, mayChange, turned, order};
 ghost use Rattle.trees.specs.Rows.{Good, size, treeOf};
 ghost use Rattle.trees.specs.Exchange.{exchanged};
 use crate::leaves::leaf_order;
@@ -13,6 +13,13 @@ pub fn is_turned(x: u8) -> bool
     ensures { λ r. ⌜ r ≡ turned x ⌝ }
 {
     x != 0
+}
+
+// Whether a row with that byte may be turned over: every row may.
+pub fn may_change(x: u8) -> bool
+    ensures { λ r. ⌜ r ≡ mayChange x ⌝ }
+{
+    true
 }
 
 // The byte that turns over a row whose byte is x.

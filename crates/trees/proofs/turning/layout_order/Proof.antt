@@ -1,7 +1,7 @@
 -- `layout_order` meets its contract: the leaves of the exchanged table stand in the layout's order.
 use mathlib.Core.Path.{_∙_}
 use borrow.Author.Needs.{needs}
-use Rattle.trees.proofs.Exchanged.{exchanged-good, exchanged-written}
+use Rattle.trees.proofs.Laid.{exchanged-good, exchanged-written}
 use Rattle.trees.proofs.turning.layout_order.Statement.{statement}
 use Rattle.trees.proofs.turning.layout_order.Tie as tie
 
