@@ -60,26 +60,15 @@ fn walk(tab: &[u16; 1023], many: &[u16; 1024], obj: u16, out: &mut [u16; 512], a
     }
 }
 
-// Writes the tree's leaves into out's first n places, and leaves the others as they are; `many` has the leaves under
-// each object, counted.
-pub fn counted_order(tab: &[u16; 1023], many: &[u16; 1024], out: &mut [u16; 512])
-    requires { ⌜ Good (now tab) × LeafCounts (now tab) (now many) ⌝ }
-    requires { ⌜ length (now out) ≡ 512 ⌝ }
-    ensures { λ _. ⌜ now (out .exit)
-        ≡ leaves (treeOf (now (tab .entry))) ++ drop (size (now (tab .entry))) (now (out .entry)) ⌝ }
-{
-    let n = tab[1022];
-    walk(tab, many, 2 * n - 1, out, 0);
-}
-
-// The same, counting the leaves under each object first.
+// Writes the tree's leaves into out's first n places, and leaves the others as they are.
 pub fn leaf_order(tab: &[u16; 1023], out: &mut [u16; 512])
     requires { ⌜ Good (now tab) ⌝ }
     requires { ⌜ length (now out) ≡ 512 ⌝ }
     ensures { λ _. ⌜ now (out .exit)
         ≡ leaves (treeOf (now (tab .entry))) ++ drop (size (now (tab .entry))) (now (out .entry)) ⌝ }
 {
+    let n = tab[1022];
     let mut many = [1u16; 1024];
     count_leaves(tab, &mut many);
-    counted_order(tab, &many, out);
+    walk(tab, &many, 2 * n - 1, out, 0);
 }

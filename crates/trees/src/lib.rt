@@ -5,7 +5,6 @@ mod noting;
 mod turning;
 
 pub use leaves::count_leaves;
-pub use leaves::counted_order;
 pub use leaves::leaf_order;
 pub use noting::note_places;
 pub use turning::exchange;

@@ -9,7 +9,7 @@ use lib.ListN.{length, getD, take}
 use Rattle.tanglegram.specs.Crossings.{inverted}
 use Rattle.tanglegram.specs.Lists.{place}
 use Rattle.tanglegram.specs.Tree.{leaves}
-use Rattle.trees.specs.Rows.{upper, lower, size, treeOf}
+use Rattle.trees.specs.Rows.{upper, lower, size, treeOf, LeafCounts}
 use Rattle.trees.proofs.Table.{upper-place, lower-place}
 use Rattle.leaf_arrays.specs.Arrays.{at}
 use Rattle.freeing.proofs.Counted.{Noted, Parts, own-counted, noted-leaves, noted-more, parts}
@@ -20,16 +20,22 @@ use Rattle.freeing.proofs.rows.free_rows.Statement.{statement}
 use Rattle.freeing.proofs.rows.free_rows.Tie as tie
 
 abbrev Inv-loop : tie.InvT-loop
-Inv-loop tab₀ many order far lay₀ n from₀ seen before₀ after₀ row₀ tab lay from before after row =
+Inv-loop tab₀ order far lay₀ n many from₀ seen before₀ after₀ row₀ tab lay from before after row =
     FreedTo (inverted (at far)) tab₀ lay₀ tab lay row before after × Noted far tab₀ seen from many (size tab₀ + row)
 
 abbrev μ-loop : tie.MeasureT-loop
-μ-loop tab₀ many order far lay₀ n from₀ seen before₀ after₀ row₀ tab lay from before after row = size tab₀ - row
+μ-loop tab₀ order far lay₀ n many from₀ seen before₀ after₀ row₀ tab lay from before after row = size tab₀ - row
 
 -- ---- before the loop
 
 abbrev start : tie.After-held-along Inv-loop μ-loop → tie.Start Inv-loop μ-loop
-start c = c .before .before .before .before .before .before .before
+start c = c .before .before .before .before .before .before .before .before .before .before
+
+abbrev manyIn : tie.After-held-along Inv-loop μ-loop → List ℕ
+manyIn c = c .before .before .before .before .before .count-leaves .last .1 .0
+
+counted : (c : tie.After-held-along Inv-loop μ-loop) → LeafCounts (start c .args .tab .now) (manyIn c)
+counted c = c .before .before .before .before .before .count-leaves .ensures
 
 abbrev seenIn : tie.After-held-along Inv-loop μ-loop → List ℕ
 seenIn c = c .held-along .last .1 .1 .0
@@ -37,7 +43,7 @@ seenIn c = c .held-along .last .1 .1 .0
 seen-long-here : (c : tie.After-held-along Inv-loop μ-loop) → length (seenIn c) ≡ 512
 seen-long-here c =
     let s = start c in
-    seen-long (s .args .tab .now) (s .pre .0 .0) (s .args .order .now) (s .pre .1 .1) (s .args .far .now) (seenIn c)
+    seen-long (s .args .tab .now) (s .pre .0 .0) (s .args .order .now) (s .pre .1 .0) (s .args .far .now) (seenIn c)
     (c .held-along .ensures)
 
 seen-first-here : (c : tie.After-held-along Inv-loop μ-loop) →
@@ -45,7 +51,7 @@ seen-first-here : (c : tie.After-held-along Inv-loop μ-loop) →
     take (size (a .tab .now)) (seenIn c) ≡ map (at (a .far .now)) (leaves (treeOf (a .tab .now)))
 seen-first-here c =
     let s = start c in
-    seen-first (s .args .tab .now) (s .pre .0 .0) (s .args .order .now) (s .pre .1 .1) (s .args .far .now) (seenIn c)
+    seen-first (s .args .tab .now) (s .pre .0 .0) (s .args .order .now) (s .pre .1 .0) (s .args .far .now) (seenIn c)
     (c .held-along .ensures)
 
 -- ---- at a row
@@ -98,33 +104,33 @@ parts-here : (c : tie.After-wide2 Inv-loop μ-loop) →
     let l = atLoop c in
     let a = startOf l .args in
     let first = c .before .before .wide .result in
-    Parts (a .far .now) (a .tab .now) (seenIn (l .before)) (l .loop .row) (getD (l .loop .from) first 0) (getD (a .many .now) first 0)
-    (getD (a .many .now) (c .wide2 .result) 0)
+    Parts (a .far .now) (a .tab .now) (seenIn (l .before)) (l .loop .row) (getD (l .loop .from) first 0) (getD (manyIn (l .before)) first 0)
+    (getD (manyIn (l .before)) (c .wide2 .result) 0)
 parts-here c =
     let l = atLoop c in
     let s = startOf l in
-    parts (s .args .tab .now) (s .pre .0 .0) (s .args .far .now) (s .pre .1 .2) (seenIn (l .before)) (seen-long-here (l .before))
-    (seen-first-here (l .before)) (l .loop .from) (s .args .many .now) (l .loop .row) (l .loop .inv .0 .from) (row-below c)
+    parts (s .args .tab .now) (s .pre .0 .0) (s .args .far .now) (s .pre .1 .1) (seenIn (l .before)) (seen-long-here (l .before))
+    (seen-first-here (l .before)) (l .loop .from) (manyIn (l .before)) (l .loop .row) (l .loop .inv .0 .from) (row-below c)
     (l .loop .inv .1) (c .before .before .wide .result) (c .wide2 .result) (first-entry c) (second-entry c)
 
 within : (c : tie.After-wide2 Inv-loop μ-loop) →
     let l = atLoop c in
     let a = startOf l .args in
     let first = c .before .before .wide .result in
-    getD (l .loop .from) first 0 + getD (a .many .now) first 0 + getD (a .many .now) (c .wide2 .result) 0 ≤ 512
+    getD (l .loop .from) first 0 + getD (manyIn (l .before)) first 0 + getD (manyIn (l .before)) (c .wide2 .result) 0 ≤ 512
 within c = let most = startOf (atLoop c) .pre .0 .0 .most in omega (arith, parts-here c .fits)
 
 -- ---- its own crossings, as it stands and turned over
 
 abbrev atRow : tie.After-own-crossings Inv-loop μ-loop → tie.After-wide2 Inv-loop μ-loop
-atRow c = c .before .before .before .before
+atRow c = c .before .before
 
 own-here : (c : tie.After-own-crossings Inv-loop μ-loop) →
     let w = atRow c in
     let l = atLoop w in
     let a = startOf l .args in
-    let first = getD (a .many .now) (w .before .before .wide .result) 0 in
-    let second = getD (a .many .now) (w .wide2 .result) 0 in
+    let first = getD (manyIn (l .before)) (w .before .before .wide .result) 0 in
+    let second = getD (manyIn (l .before)) (w .wide2 .result) 0 in
     Own (inverted (at (a .far .now))) (a .tab .now) (l .loop .row) (c .own-crossings .result)
     (first * second - c .own-crossings .result)
 own-here c = own-counted (parts-here (atRow c)) (c .own-crossings .ensures)
@@ -134,20 +140,23 @@ own-here c = own-counted (parts-here (atRow c)) (c .own-crossings .ensures)
 element-copy-out-n : tie.Need-element-copy-out-n Inv-loop μ-loop
 element-copy-out-n c = search needs
 
+count-leaves-requires : tie.Need-count-leaves-requires Inv-loop μ-loop
+count-leaves-requires c κs = search needs
+
 note-places-requires : tie.Need-note-places-requires Inv-loop μ-loop
 note-places-requires c κs =
-    let s = c .before .before .before in
-    (s .pre .0 .0 .most, s .pre .1 .1 .long, refl)
+    let s = c .before .before .before .before .before .before in
+    (s .pre .0 .0 .most, s .pre .1 .0 .long, refl)
 
 cast-held-along : tie.Need-cast-held-along Inv-loop μ-loop
 cast-held-along c = search needs
 
 held-along-requires : tie.Need-held-along-requires Inv-loop μ-loop
 held-along-requires c κs =
-    let s = c .before .before .before .before .before .before in
+    let s = c .before .before .before .before .before .before .before .before .before in
     let most = s .pre .0 .0 .most in
-    let long = s .pre .1 .1 .long in
-    (most, omega arith, order-leaves (s .args .tab .now) (s .pre .0 .0) (s .args .order .now) (s .pre .1 .1))
+    let long = s .pre .1 .0 .long in
+    (most, omega arith, order-leaves (s .args .tab .now) (s .pre .0 .0) (s .args .order .now) (s .pre .1 .0))
 
 loop-holds : tie.Need-loop-holds Inv-loop μ-loop
 loop-holds c =
@@ -156,10 +165,10 @@ loop-holds c =
     let g = s .pre .0 .0 in
     let p = c .before .before .before .note-places in
     let places : (v : ℕ) → v ≤ size W → getD (p .last .1 .1 .0) v 0 ≡ place (leaves (treeOf W)) v =
-    λ v h. p .ensures .1 v h ∙ ap (λ l. place l v) (s .pre .1 .1 .first) in (
+    λ v h. p .ensures .1 v h ∙ ap (λ l. place l v) (s .pre .1 .0 .first) in (
       freed-none (inverted (at (s .args .far .now))) W (s .args .lay .now) (s .pre .0 .1) (g .most),
-      noted-leaves W g (s .args .far .now) (s .pre .1 .2) (seenIn c) (seen-long-here c) (seen-first-here c) (p .last .1 .1 .0)
-          (s .args .many .now) (p .ensures .0) places (s .pre .1 .0),
+      noted-leaves W g (s .args .far .now) (s .pre .1 .1) (seenIn c) (seen-long-here c) (seen-first-here c) (p .last .1 .1 .0)
+          (manyIn c) (p .ensures .0) places (counted c),
     )
 
 mul-wide : tie.Need-mul-wide Inv-loop μ-loop
@@ -201,27 +210,27 @@ array-read-at c = first-index c
 mul-first : tie.Need-mul-first Inv-loop μ-loop
 mul-first c = omega (arith, first-index c)
 
-element-copy-out-first : tie.Need-element-copy-out-first Inv-loop μ-loop
-element-copy-out-first c = first-index c
+array-read-first : tie.Need-array-read-first Inv-loop μ-loop
+array-read-first c = first-index c
 
 mul-second : tie.Need-mul-second Inv-loop μ-loop
-mul-second c = omega (arith, second-index (c .before))
+mul-second c = omega (arith, second-index c)
 
-element-copy-out-second : tie.Need-element-copy-out-second Inv-loop μ-loop
-element-copy-out-second c = second-index (c .before)
+array-read-second : tie.Need-array-read-second Inv-loop μ-loop
+array-read-second c = second-index c
 
 cast-own-crossings : tie.Need-cast-own-crossings Inv-loop μ-loop
-cast-own-crossings c = omega (arith, within (c .before .before .before))
+cast-own-crossings c = omega (arith, within (c .before))
 
 cast-own-crossings-2 : tie.Need-cast-own-crossings-2 Inv-loop μ-loop
-cast-own-crossings-2 c = omega (arith, within (c .before .before .before))
+cast-own-crossings-2 c = omega (arith, within (c .before))
 
 cast-own-crossings-3 : tie.Need-cast-own-crossings-3 Inv-loop μ-loop
-cast-own-crossings-3 c = omega (arith, within (c .before .before .before))
+cast-own-crossings-3 c = omega (arith, within (c .before))
 
 own-crossings-requires : tie.Need-own-crossings-requires Inv-loop μ-loop
 own-crossings-requires c κs =
-    let w = c .before .before .before in
+    let w = c .before in
     let long = seen-long-here (atLoop w .before) in
     ((omega (arith, within w), long), parts-here w .both-ways)
 
@@ -296,9 +305,9 @@ loop-again c =
     let freed = freed-more (inverted (at (a .far .now))) (a .tab .now) (a .lay .now) (s .pre .0 .1) (s .pre .0 .0 .most) (l .loop .tab)
     (l .loop .lay) (l .loop .row) (l .loop .before) (l .loop .after) (l .loop .inv .0) (row-below w) _ _ (own-here o) _ _ _
     (d .decide .ensures) in
-    let noted = noted-more (a .tab .now) (s .pre .0 .0) (a .far .now) (s .pre .1 .2) (seenIn (l .before)) (seen-long-here (l .before))
-    (seen-first-here (l .before)) (l .loop .from) (a .many .now) (l .loop .row) (l .loop .inv .0 .from) (row-below w) (l .loop .inv .1)
-    (w .before .before .wide .result) (w .wide2 .result) (first-entry w) (second-entry w) (s .pre .1 .0) in
+    let noted = noted-more (a .tab .now) (s .pre .0 .0) (a .far .now) (s .pre .1 .1) (seenIn (l .before)) (seen-long-here (l .before))
+    (seen-first-here (l .before)) (l .loop .from) (manyIn (l .before)) (l .loop .row) (l .loop .inv .0 .from) (row-below w) (l .loop .inv .1)
+    (w .before .before .wide .result) (w .wide2 .result) (first-entry w) (second-entry w) (counted (l .before)) in
     (freed, noted)
 
 same-length : tie.Need-same-length Inv-loop μ-loop
@@ -321,6 +330,7 @@ free-rows-spec =
     Inv-loop
     μ-loop
     element-copy-out-n
+    count-leaves-requires
     note-places-requires
     cast-held-along
     held-along-requires
@@ -338,9 +348,9 @@ free-rows-spec =
     mul-at
     array-read-at
     mul-first
-    element-copy-out-first
+    array-read-first
     mul-second
-    element-copy-out-second
+    array-read-second
     cast-own-crossings
     cast-own-crossings-2
     cast-own-crossings-3
