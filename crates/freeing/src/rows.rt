@@ -67,7 +67,12 @@ fn decide(tab: &mut [u16; 1023], lay: &mut [u8], row: usize, count: u32, other: 
 // object stand side by side in the order: `many` has how many they are, and `from` the first one's place, for each leaf
 // and for each object whose row has been decided. Answers the sums of the rows' own crossings, which are all crossings
 // of the side.
-pub fn free_rows(tab: &mut [u16; 1023], order: &[u16; 512], far: &[u16; 512], lay: &mut [u8]) -> Sums
+pub fn free_rows(
+    tab: &mut [u16; 1023],
+    order: &[u16; 512],
+    far: &[u16; 512],
+    lay: &mut [u8],
+) -> Sums
     requires { ⌜ Good (now tab) × (length (now lay) + 1 ≡ size (now tab)) ⌝ }
     requires { ⌜ InOrder (now tab) (now order) × Apart (size (now tab)) (now far) ⌝ }
     ensures { λ r. ⌜ RowsFreed (inverted (at (now (far .entry)))) (now (tab .entry)) (now (lay .entry))

@@ -9,7 +9,9 @@ pub mod ListSums
 pub mod Totals
 pub mod Crossings
 pub mod Freeing
+pub mod Sides
 pub mod Run
+pub mod Alternating
 pub mod Entanglement
 pub mod Turning
 pub mod Table

@@ -5,4 +5,5 @@ pub mod Crossings
 pub mod Freeing
 pub mod Table
 pub mod Run
+pub mod Sides
 pub mod Entanglement

@@ -1,7 +1,9 @@
 -- Turns alternate between two freeings, the left first; a run ends after the first turn, other than turn 1, that gains nothing.
-use Prim.Native.Nat.{ℕ, zero, suc}
+use Prim.Native.Nat.{ℕ, zero, suc, _-_}
+use mathlib.Core.Path.{_≡_}
 use mathlib.Core.Bool.{Bool, true, false, cond}
 use lib.Dec.{ltb}
+use Rattle.tanglegram.specs.Lists.{bit}
 
 pub data Side : Type 0 where
   left right : Side
@@ -34,6 +36,17 @@ module _ {S : Type 0} (cost : S → ℕ) (free : Side → S → S) where
   unfolding go
   run zero s = record { last = s; turns = 0; settled = false }
   run (suc k) s = more (go k right (free left s))
+
+  -- The turns of a run after the first, which led to s.
+  abbrev pub onward : ℕ → S → End S
+  onward k s = more (go (k - 1) right s)
+
+-- A run that ends with e, as code tells it: the last count, the turns, 1 if settled or 0 if not, and the state it leaves.
+pub record ComesTo {S : Type 0} (cost : S → ℕ) (e : End S) (last turns settled : ℕ) (state : S) : Type 0 where
+  pub last-count : last ≡ cost (e .last)
+  pub taken : turns ≡ e .turns
+  pub ended : settled ≡ bit (e .settled)
+  pub leaves : state ≡ e .last
 
 -- The state after k turns, `side` first.
 unfoldable pub after : {S : Type 0} → (Side → S → S) → ℕ → Side → S → S

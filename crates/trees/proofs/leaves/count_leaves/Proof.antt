@@ -26,16 +26,24 @@ first-index c =
     let l = atLoop c in
     let s = l .before .before in
     let most = s .pre .0 .most in
-    omega (arith, first-below (s .args .tab .now) (s .pre .0) (l .loop .i) (l .loop .inv .0) (row-below c), row-below c,
-    c .before .before .wide .ensures)
+    omega (
+      arith,
+      first-below (s .args .tab .now) (s .pre .0) (l .loop .i) (l .loop .inv .0) (row-below c),
+      row-below c,
+      c .before .before .wide .ensures,
+    )
 
 second-index : (c : tie.After-wide2 Inv-loop μ-loop) → c .wide2 .result < 1024
 second-index c =
     let l = atLoop c in
     let s = l .before .before in
     let most = s .pre .0 .most in
-    omega (arith, second-below (s .args .tab .now) (s .pre .0) (l .loop .i) (l .loop .inv .0) (row-below c), row-below c,
-    c .wide2 .ensures)
+    omega (
+      arith,
+      second-below (s .args .tab .now) (s .pre .0) (l .loop .i) (l .loop .inv .0) (row-below c),
+      row-below c,
+      c .wide2 .ensures,
+    )
 
 -- ---- the needs
 
@@ -99,8 +107,11 @@ add-many c =
     let l = atLoop w in
     let s = l .before .before in
     let most = s .pre .0 .most in
-    omega (arith, both-within (s .args .tab .now) (s .pre .0) (l .loop .i) (l .loop .inv .0) (row-below w) (l .loop .many) (l .loop .inv .2)
-    (w .before .before .wide .result) (w .wide2 .result) (w .before .before .wide .ensures) (w .wide2 .ensures))
+    omega (
+      arith,
+      both-within (s .args .tab .now) (s .pre .0) (l .loop .i) (l .loop .inv .0) (row-below w) (l .loop .many) (l .loop .inv .2)
+          (w .before .before .wide .result) (w .wide2 .result) (w .before .before .wide .ensures) (w .wide2 .ensures),
+    )
 
 add-many-2 : tie.Need-add-many-2 Inv-loop μ-loop
 add-many-2 c = search needs
@@ -121,10 +132,13 @@ loop-again : tie.Need-loop-again Inv-loop μ-loop
 loop-again c =
     let w = c .before .before in
     let l = atLoop w in
-    let s = l .before .before in
-    (omega arith, omega (arith, row-below w), counted-more (s .args .tab .now) (s .pre .0) (l .loop .i) (l .loop .inv .0) (row-below w)
-    (l .loop .many) (l .loop .inv .2) (w .before .before .wide .result) (w .wide2 .result) (w .before .before .wide .ensures)
-    (w .wide2 .ensures))
+    let s = l .before .before in (
+      omega arith,
+      omega (arith, row-below w),
+      counted-more (s .args .tab .now) (s .pre .0) (l .loop .i) (l .loop .inv .0) (row-below w)
+          (l .loop .many) (l .loop .inv .2) (w .before .before .wide .result) (w .wide2 .result) (w .before .before .wide .ensures)
+          (w .wide2 .ensures),
+    )
 
 returns : tie.Need-returns Inv-loop μ-loop
 returns c =

@@ -1,0 +1,51 @@
+-- Two linked trees in memory: the arrays that hold them as they are laid out, and what freeing a side and a run make of them. Stated over
+-- the table that the trees and the links make (`tanglegram`).
+use Prim.Native.Nat.{ℕ}
+use mathlib.Core.Path.{_≡_}
+use mathlib.Core.List.{List}
+use lib.ListN.{take}
+use Rattle.tanglegram.specs.Tree.{Tree}
+use Rattle.tanglegram.specs.Run.{Side, left, right, run, onward, ComesTo}
+use Rattle.tanglegram.specs.Table.{Table, Layouts, pick, linked, crossings, free}
+use Rattle.trees.specs.Exchange.{givenTree, LaidOut}
+use Rattle.leaf_arrays.specs.Arrays.{OneToN}
+use Rattle.freeing.specs.Row.{InOrder}
+
+abbrev pub layoutsFrom : List ℕ → List ℕ → Layouts
+layoutsFrom l r = record { left-bytes = l; right-bytes = r }
+
+-- The table that the arrays hold.
+abbrev pub tableFrom : ℕ → List ℕ → List ℕ → List ℕ → List ℕ → List ℕ → Table
+tableFrom n links L l R r = linked n (givenTree L l) (givenTree R r) (take n links)
+
+-- The arrays hold the trees t and u over n leaves, each with its layout applied, and links one to one.
+pub record InMemory (t u : Tree) (n : ℕ) (links L l R r : List ℕ) : Type 0 where
+  pub left-side : LaidOut t n l L
+  pub right-side : LaidOut u n r R
+  pub one-to-one : OneToN n links
+
+-- A side's order is at hand: its array has the table's leaves in its first places.
+abbrev pub orderIn : Side → List ℕ → List ℕ → List ℕ → List ℕ → Type 0
+orderIn side L lo R ro = InOrder (pick L R side) (pick lo ro side)
+
+-- A side freed, from the layouts `at`: the counts before and after, the layouts, and the arrays afterwards.
+module _ (t u : Tree) (n : ℕ) (links : List ℕ) where
+  abbrev pub here : Table
+  here = linked n t u (take n links)
+
+  pub record SideFreed (side : Side) (at : Layouts) (before after : ℕ) (L l R r : List ℕ) : Type 0 where
+    pub counted : before ≡ crossings here at
+    pub recounted : after ≡ crossings here (free here side at)
+    pub leaves : layoutsFrom l r ≡ free here side at
+    pub holds : InMemory t u n links L l R r
+
+  -- The turns of a run after the first, which led to the layouts `at`.
+  pub record GoneOn (at : Layouts) (allowance last turns settled : ℕ) (L l R r : List ℕ) : Type 0 where
+    pub ran : ComesTo (crossings here) (onward (crossings here) (free here) allowance at) last turns settled (layoutsFrom l r)
+    pub holds : InMemory t u n links L l R r
+
+  -- A run from the layouts `at` under an allowance.
+  pub record RunTaken (at : Layouts) (allowance first last turns settled : ℕ) (L l R r : List ℕ) : Type 0 where
+    pub first-count : first ≡ crossings here at
+    pub ran : ComesTo (crossings here) (run (crossings here) (free here) allowance at) last turns settled (layoutsFrom l r)
+    pub holds : InMemory t u n links L l R r

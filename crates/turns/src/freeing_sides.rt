@@ -1,0 +1,134 @@
+// Freeing a side while the other stands. The freed side needs its own order, in which it stood before, and the other
+// side's order, in which its links end; the latter is walked anew, since the other side may have been freed before.
+ghost use mathlib.Core.Bool.{true};
+ghost use mathlib.Core.Path.{_≡_};
+ghost use Prim.Native.Nat.{_+_};
+ghost use lib.ListN.{length, take};
+ghost use Rattle.tanglegram.specs.Crossings.{seenLeft, seenRight};
+ghost use Rattle.tanglegram.specs.Run.{other};
+ghost use Rattle.tanglegram.specs.Sides.{isSide, sideOf};
+ghost use Rattle.tanglegram.specs.Tree.{leaves};
+ghost use Rattle.trees.specs.Exchange.{givenTree};
+ghost use Rattle.trees.specs.Rows.{Good, size, treeOf};
+ghost use Rattle.leaf_arrays.specs.Arrays.{OneToN};
+ghost use Rattle.freeing.specs.Row.{InOrder, RowsFreed};
+ghost use Rattle.turns.specs.Memory.{InMemory, layoutsFrom, orderIn, SideFreed};
+use freeing::Sums;
+use freeing::free_rows;
+use linked_orders::far_of_left;
+use linked_orders::far_of_right;
+use trees::leaf_order;
+
+// Frees the left side, by its own order and the right side's, which is written.
+fn free_left(
+    left: &mut [u16; 1023],
+    right: &[u16; 1023],
+    links: &[u16; 512],
+    leftlay: &mut [u8],
+    leftorder: &[u16; 512],
+    rightorder: &mut [u16; 512],
+) -> Sums
+    requires { ⌜ Good (now left) × Good (now right) × (size (now right) ≡ size (now left)) ⌝ }
+    requires { ⌜ (length (now leftlay) + 1 ≡ size (now left)) × OneToN (size (now left)) (now links) ⌝ }
+    requires { ⌜ InOrder (now left) (now leftorder) × (length (now rightorder) ≡ 512) ⌝ }
+    ensures { λ r. ⌜
+        RowsFreed
+        (seenLeft (take (size (now (left .entry))) (now (links .entry))) (leaves (treeOf (now (right .entry)))))
+        (now (left .entry)) (now (leftlay .entry)) (r .before) (r .after) (now (left .exit)) (now (leftlay .exit))
+        × InOrder (now (right .entry)) (now (rightorder .exit))
+        ⌝ }
+{
+    let n = left[1022] as usize;
+    leaf_order(right, rightorder);
+    let mut far = [0u16; 512];
+    far_of_left(links, rightorder, n, &mut far);
+    free_rows(left, leftorder, &far, leftlay)
+}
+
+// Frees the right side, by its own order and the left side's, which is written.
+fn free_right(
+    left: &[u16; 1023],
+    right: &mut [u16; 1023],
+    links: &[u16; 512],
+    rightlay: &mut [u8],
+    leftorder: &mut [u16; 512],
+    rightorder: &[u16; 512],
+) -> Sums
+    requires { ⌜ Good (now left) × Good (now right) × (size (now left) ≡ size (now right)) ⌝ }
+    requires { ⌜ (length (now rightlay) + 1 ≡ size (now right)) × OneToN (size (now right)) (now links) ⌝ }
+    requires { ⌜ InOrder (now right) (now rightorder) × (length (now leftorder) ≡ 512) ⌝ }
+    ensures { λ r. ⌜
+        RowsFreed
+        (seenRight (take (size (now (right .entry))) (now (links .entry))) (leaves (treeOf (now (left .entry)))))
+        (now (right .entry)) (now (rightlay .entry)) (r .before) (r .after) (now (right .exit)) (now (rightlay .exit))
+        × InOrder (now (left .entry)) (now (leftorder .exit))
+        ⌝ }
+{
+    let n = right[1022] as usize;
+    leaf_order(left, leftorder);
+    let mut far = [0u16; 512];
+    far_of_right(links, leftorder, n, &mut far);
+    free_rows(right, rightorder, &far, rightlay)
+}
+
+// Takes a turn: frees a side whose order is at hand. The other side's order is at hand afterwards.
+pub fn take_turn(
+    left: &mut [u16; 1023],
+    right: &mut [u16; 1023],
+    links: &[u16; 512],
+    leftlay: &mut [u8],
+    rightlay: &mut [u8],
+    leftorder: &mut [u16; 512],
+    rightorder: &mut [u16; 512],
+    side: u16,
+) -> Sums
+    requires { ⌜ InMemory (givenTree (now left) (now leftlay)) (givenTree (now right) (now rightlay)) (size (now left))
+        (now links) (now left) (now leftlay) (now right) (now rightlay) ⌝ }
+    requires { ⌜ (isSide side ≡ true) × (length (now leftorder) ≡ 512) × (length (now rightorder) ≡ 512) ⌝ }
+    requires { ⌜ orderIn (sideOf side) (now left) (now leftorder) (now right) (now rightorder) ⌝ }
+    ensures { λ r. ⌜
+        SideFreed (givenTree (now (left .entry)) (now (leftlay .entry)))
+        (givenTree (now (right .entry)) (now (rightlay .entry))) (size (now (left .entry))) (now (links .entry)) (sideOf side)
+        (layoutsFrom (now (leftlay .entry)) (now (rightlay .entry))) (r .before) (r .after)
+        (now (left .exit)) (now (leftlay .exit)) (now (right .exit)) (now (rightlay .exit))
+        ⌝ }
+    ensures { λ _. ⌜
+        orderIn (other (sideOf side)) (now (left .exit)) (now (leftorder .exit)) (now (right .exit)) (now (rightorder .exit))
+        × (length (now (leftorder .exit)) ≡ 512) × (length (now (rightorder .exit)) ≡ 512)
+        ⌝ }
+{
+    if side == 1 {
+        return free_left(left, right, links, leftlay, leftorder, rightorder);
+    }
+    free_right(left, right, links, rightlay, leftorder, rightorder)
+}
+
+// Frees a side, in its table and in its layout; the other side stands. Answers the counts before and after, which are
+// the sums of the side's own crossings.
+pub fn free_side(
+    left: &mut [u16; 1023],
+    right: &mut [u16; 1023],
+    links: &[u16; 512],
+    leftlay: &mut [u8],
+    rightlay: &mut [u8],
+    side: u16,
+) -> Sums
+    requires { ⌜ InMemory (givenTree (now left) (now leftlay)) (givenTree (now right) (now rightlay)) (size (now left))
+        (now links) (now left) (now leftlay) (now right) (now rightlay) ⌝ }
+    requires { ⌜ isSide side ≡ true ⌝ }
+    ensures { λ r. ⌜
+        SideFreed (givenTree (now (left .entry)) (now (leftlay .entry)))
+        (givenTree (now (right .entry)) (now (rightlay .entry))) (size (now (left .entry))) (now (links .entry)) (sideOf side)
+        (layoutsFrom (now (leftlay .entry)) (now (rightlay .entry))) (r .before) (r .after)
+        (now (left .exit)) (now (leftlay .exit)) (now (right .exit)) (now (rightlay .exit))
+        ⌝ }
+{
+    let mut leftorder = [0u16; 512];
+    let mut rightorder = [0u16; 512];
+    if side == 1 {
+        leaf_order(left, &mut leftorder);
+        return free_left(left, right, links, leftlay, &leftorder, &mut rightorder);
+    }
+    leaf_order(right, &mut rightorder);
+    free_right(left, right, links, rightlay, &mut leftorder, &rightorder)
+}
