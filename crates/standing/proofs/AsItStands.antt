@@ -1,19 +1,20 @@
--- An accepted record as it stands: the rows, the layout and the order of each side, and where the links of its leaves end.
+-- An accepted record as it stands: the rows, the layout and the order of each side, and its links.
 use Prim.Native.Nat.{ℕ, _+_, _-_, _*_, _≤_}
 use mathlib.Core.Path.{_≡_, refl, sym, ap, _∙_, subst}
-use mathlib.Core.List.{List, _++_, List·Permᴰ, List·Permᴰ·trans}
+use mathlib.Core.List.{List, List·Permᴰ, List·Permᴰ·trans}
 use native.Mathlib.Nat.{add-sub-cancel-left}
 use native.Mathlib.Omega.{arith}
 use lib.ListN.{length, take, drop, set}
 use lib.Seq.{sets}
 use Rattle.tanglegram.specs.Lists.{range}
 use Rattle.tanglegram.specs.Tree.{leaves, tree, Rule}
-use Rattle.tanglegram.specs.Order.{order}
 use Rattle.tanglegram.specs.Run.{Side, left, right}
 use Rattle.tanglegram.specs.Table.{layout, orderOf}
 use Rattle.tanglegram.proofs.Tree.{leaves-once}
 use Rattle.tanglegram.proofs.Order.{order-perm}
 use Rattle.trees.specs.Rows.{upper, lower, size, treeOf, Good}
+use Rattle.trees.specs.Exchange.{exchanged, LaidOut}
+use Rattle.trees.proofs.Laid.{laid-out}
 use Rattle.format.specs.Fields.{numbers, bytes, sizeOf, parts, partsOf, linksAt}
 use Rattle.format.specs.Meaning.{tableOf, layoutsOf}
 use Rattle.format.specs.Refusals.{refusal}
@@ -95,24 +96,28 @@ module _ (s : List ℕ) (n : ℕ) (g : Given s n) where
 
   module _ (side : Side) (found T : List ℕ) (full : length found ≡ 1023) (at : ℕ) (here : at ≡ rowsAt n side)
       (made : T ≡ set (sets found 0 (numbers s at (2 * (n - 1)))) 1022 n) where
-    e : T ≡ set (sets found 0 (numbers s (rowsAt n side) (2 * (n - 1)))) 1022 n
-    e = made ∙ ap (λ k. set (sets found 0 (numbers s k (2 * (n - 1)))) 1022 n) here
+    made-here : T ≡ set (sets found 0 (numbers s (rowsAt n side) (2 * (n - 1)))) 1022 n
+    made-here = made ∙ ap (λ k. set (sets found 0 (numbers s k (2 * (n - 1)))) 1022 n) here
 
     rows-long : length (sideRows side) ≡ 2 * (n - 1)
     rows-long = length-numbers s (rowsAt n side) (2 * (n - 1))
 
     pub filled-good : Good T
-    filled-good = rw e (good-filled found (sideRows side) n full rows-long (g .sized .most) (g .sized .some) (side-rule side))
+    filled-good = rw made-here (good-filled found (sideRows side) n full rows-long (g .sized .most) (g .sized .some) (side-rule side))
 
     pub filled-size : size T ≡ n
-    filled-size = rw e (size-filled found (sideRows side) n full rows-long (g .sized .most))
+    filled-size = rw made-here (size-filled found (sideRows side) n full rows-long (g .sized .most))
 
     pub filled-tree : treeOf T ≡ tableOf s .tree side
     filled-tree =
-        ap treeOf e
+        ap treeOf made-here
         ∙ tree-filled found (sideRows side) n full rows-long (g .sized .most) (g .sized .some) (side-rule side)
         ∙ side-tree side
 
-    pub filled-order : (lay out : List ℕ) → lay ≡ layout (layoutsOf s) side →
-        order lay (treeOf T) ++ drop (size T) out ≡ orderOf (tableOf s) (layoutsOf s) side ++ drop n out
-    filled-order lay out h = rw (h, filled-tree, filled-size) refl
+    pub filled-laid : (lay W : List ℕ) → lay ≡ layout (layoutsOf s) side → W ≡ exchanged T lay →
+        LaidOut (tableOf s .tree side) n (layout (layoutsOf s) side) W
+    filled-laid lay W h e =
+        let some = g .sized .some in
+        let k = filled-size in
+        let long = ap length h ∙ length-part side in
+        rw (filled-tree, filled-size, h) at (laid-out T lay W filled-good (omega arith) e)

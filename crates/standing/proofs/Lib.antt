@@ -1,5 +1,4 @@
 pub mod AsItStands
 pub mod Relaying
-pub mod FarEnds
-pub mod Counts
+pub mod Apart
 pub mod Held

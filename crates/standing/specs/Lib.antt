@@ -1,2 +1,3 @@
 pub mod Sides
 pub mod Shown
+pub mod Apart

@@ -1,23 +1,15 @@
--- Sides as numbers, which sides a hold holds, and where a side's parts stand in a record.
+-- Sides as numbers (`tanglegram`), which sides a hold holds, and where a side's parts stand in a record.
 use Prim.Native.Nat.{ℕ}
 use mathlib.Core.Path.{_≡_}
-use mathlib.Core.Bool.{Bool, cond, _||_}
+use mathlib.Core.Bool.{Bool, _||_}
 use mathlib.Core.List.{List}
 use lib.Dec.{eqb}
-use Rattle.tanglegram.specs.Crossings.{end}
 use Rattle.tanglegram.specs.Run.{Side, left, right}
-use Rattle.tanglegram.specs.Table.{orderOf}
-use Rattle.leaf_arrays.specs.Arrays.{begin}
-use Rattle.format.specs.Fields.{rightAt, leftLayoutAt, rightLayoutAt, parts, Sized}
+use Rattle.format.specs.Fields.{rightAt, leftLayoutAt, rightLayoutAt, Sized}
 use Rattle.format.specs.Refusals.{refusal}
-use Rattle.format.specs.Meaning.{tableOf, layoutsOf}
 
--- 1 is left and 2 is right.
-unfoldable pub isSide : ℕ → Bool
-isSide x = eqb x 1 || eqb x 2
-
-abbrev pub sideOf : ℕ → Side
-sideOf x = cond (eqb x 1) left right
+unfoldable pub use Rattle.tanglegram.specs.Sides.{isSide}
+pub use Rattle.tanglegram.specs.Sides.{sideOf}
 
 -- `L` holds the left, `R` the right, `B` both.
 unfoldable pub holds : ℕ → Side → Bool
@@ -37,8 +29,3 @@ rowsAt n right = rightAt n
 abbrev pub layoutAt : ℕ → Side → ℕ
 layoutAt n left = leftLayoutAt n
 layoutAt n right = rightLayoutAt n
-
--- The place of the far end of a leaf's link, in the other side's present order.
-abbrev pub farPlace : List ℕ → Side → ℕ → ℕ
-farPlace s left = end (parts s .links) (orderOf (tableOf s) (layoutsOf s) right)
-farPlace s right = begin (parts s .links) (orderOf (tableOf s) (layoutsOf s) left)

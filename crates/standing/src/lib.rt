@@ -1,15 +1,15 @@
-// What an accepted record shows as it stands: arrays filled from its bytes, orders, counts, displacement. The calls
-// stand on this.
-mod arrays;
-mod counting;
+// An accepted record taken apart into arrays, and put back. The calls stand on this; the work on the arrays is the
+// crates' below.
+mod places;
+mod putting_back;
 mod sides;
+mod taking_apart;
 
-pub use arrays::far_places;
-pub use arrays::layout_at;
-pub use arrays::rows_at;
-pub use arrays::side_order;
-pub use counting::crossings_paired;
-pub use counting::crossings_seen;
-pub use counting::displacement_of;
+pub use places::layout_at;
+pub use places::rows_at;
+pub use putting_back::put_back;
 pub use sides::is_held;
 pub use sides::is_side;
+pub use taking_apart::side_order;
+pub use taking_apart::take_apart;
+pub use taking_apart::take_orders;

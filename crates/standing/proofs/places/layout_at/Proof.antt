@@ -2,8 +2,8 @@
 use mathlib.Core.Path.{refl}
 use borrow.Author.Tests.{eq-eqb, ne-eqb}
 use borrow.Author.Needs.{needs}
-use Rattle.standing.proofs.arrays.layout_at.Statement.{statement}
-use Rattle.standing.proofs.arrays.layout_at.Tie as tie
+use Rattle.standing.proofs.places.layout_at.Statement.{statement}
+use Rattle.standing.proofs.places.layout_at.Tie as tie
 
 sub-result : tie.Need-sub-result
 sub-result c = search needs

@@ -2,8 +2,8 @@
 use mathlib.Core.Path.{refl}
 use borrow.Author.Tests.{eq-eqb, ne-eqb}
 use borrow.Author.Needs.{needs}
-use Rattle.standing.proofs.arrays.rows_at.Statement.{statement}
-use Rattle.standing.proofs.arrays.rows_at.Tie as tie
+use Rattle.standing.proofs.places.rows_at.Statement.{statement}
+use Rattle.standing.proofs.places.rows_at.Tie as tie
 
 returns : tie.Need-returns
 returns c = rw (eq-eqb _ _ (c .if1 .taken)) refl
