@@ -25,7 +25,7 @@ use Rattle.views.specs.Refusals.{ordering}
 use Rattle.standing.specs.Shown.{shownOrder, shownCount}
 use Rattle.views.specs.Calls.{Orders, Counts, ratio, entangled, Entangles}
 use Rattle.standing.proofs.AsItStands.{side-perm, given-size}
-use Rattle.standing.proofs.FarEnds.{order-taken}
+use Rattle.standing.proofs.Apart.{order-taken}
 
 module _ (s : List ℕ) where
   -- ---- counts

@@ -1,5 +1,6 @@
 // The calls on any bytes that only show a record: order, count, pairs, entanglement.
 pub mod answers;
+mod counting;
 mod showing;
 
 pub use showing::count;

@@ -4,13 +4,13 @@ ghost use Rattle.views.specs.Calls.{Counts, Entangles, Orders};
 ghost use Rattle.views.specs.Refusals.{ordering};
 use crate::answers::Counted;
 use crate::answers::Entangled;
+use crate::counting::crossings_paired;
+use crate::counting::crossings_seen;
+use crate::counting::displacement_of;
 use format::copying::copied;
 use format::refusal::ROOM;
 use format::refusal::Refusal;
 use format::refusal::SIDE;
-use standing::crossings_paired;
-use standing::crossings_seen;
-use standing::displacement_of;
 use standing::is_side;
 use standing::side_order;
 

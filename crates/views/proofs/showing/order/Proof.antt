@@ -3,7 +3,7 @@ use mathlib.Core.Path.{refl, sym, _∙_}
 use native.Mathlib.Omega.{arith}
 use lib.Seq.{length-take-le}
 use Rattle.standing.specs.Sides.{sideOf}
-use Rattle.standing.proofs.FarEnds.{order-long}
+use Rattle.standing.proofs.Apart.{order-long}
 use Rattle.standing.proofs.AsItStands.{long-enough, given-size}
 use Rattle.views.proofs.Outcomes.{ordering-good, order-refused, order-accepted}
 use borrow.Author.Needs.{needs}
