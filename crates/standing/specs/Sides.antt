@@ -7,7 +7,6 @@ use lib.Dec.{eqb}
 use Rattle.tanglegram.specs.Run.{Side, left, right}
 use Rattle.format.specs.Fields.{rightAt, leftLayoutAt, rightLayoutAt, Sized}
 use Rattle.format.specs.Refusals.{refusal}
-
 unfoldable pub use Rattle.tanglegram.specs.Sides.{isSide}
 pub use Rattle.tanglegram.specs.Sides.{sideOf}
 

@@ -49,7 +49,13 @@ pub fn side_order(s: &[u8], n: u16, side: u16, out: &mut [u16; 512])
 }
 
 // Writes both sides' present orders and the links to the arrays' first places.
-pub fn take_orders(s: &[u8], n: u16, left: &mut [u16; 512], right: &mut [u16; 512], links: &mut [u16; 512])
+pub fn take_orders(
+    s: &[u8],
+    n: u16,
+    left: &mut [u16; 512],
+    right: &mut [u16; 512],
+    links: &mut [u16; 512],
+)
     requires { ⌜ Given (now s) n ⌝ }
     requires { ⌜ (length (now left) ≡ 512) × (length (now right) ≡ 512) × (length (now links) ≡ 512) ⌝ }
     ensures { λ _. ⌜ OrdersTaken (now (s .entry)) n (now (left .exit)) (now (right .exit)) (now (links .exit)) ⌝ }

@@ -1,3 +1,3 @@
+pub mod Apart
 pub mod Freed
 pub mod Turns
-pub mod Alternating

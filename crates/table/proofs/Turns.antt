@@ -1,12 +1,12 @@
 -- Freeing a side and running, as calls: their refusals test by test, and from what they found to their statements.
 use Prim.Native.Nat.{ℕ, zero, suc, _≤_, _<_}
-use mathlib.Core.Path.{_≡_, refl, sym, ap, ap₂, _∙_, subst}
+use mathlib.Core.Path.{_≡_, refl, sym, ap, _∙_}
 use mathlib.Core.Logic.{_≢_}
 use mathlib.Core.Bool.{true, false, true≢false}
 use mathlib.Core.List.{List}
 use native.Mathlib.Omega.{arith}
 use borrow.Author.Tests.{eq-eqb, ne-eqb, lt-ltb, le-ltb}
-use Rattle.tanglegram.specs.Run.{Side, left, right}
+use Rattle.tanglegram.specs.Run.{left, right}
 use Rattle.tanglegram.specs.Table.{crossings}
 use Rattle.format.specs.Fields.{holdOf}
 use Rattle.format.specs.Refusals.{refusal}
@@ -16,8 +16,8 @@ use Rattle.format.proofs.Heading.{none-first, not-no}
 use Rattle.standing.specs.Sides.{isSide, sideOf, holds, Given}
 use Rattle.table.specs.Refusals.{freeing, noAllowance, running}
 use Rattle.standing.specs.Shown.{shownCount}
-use Rattle.table.specs.Calls.{freedLayouts, SideFreed, Frees, ranTo, Turned, Runs}
-use Rattle.table.proofs.Freed.{freed-given, freed-table, freed-layouts}
+use Rattle.table.specs.Calls.{freedLayouts, RecordFreed, Frees, RecordRan, Runs}
+use Rattle.table.proofs.Freed.{freed-table, freed-layouts}
 
 -- ---- the refusals
 
@@ -59,19 +59,9 @@ module _ (s : List ℕ) (side : ℕ) where
       ap (λ T. crossings T (layoutsOf (relaid s (freedLayouts s side)))) (freed-table s n g (sideOf side))
       ∙ ap (crossings (tableOf s)) (freed-layouts s n g (sideOf side))
 
-  pub free-accepted : {b a : ℕ} {s′ : List ℕ} → freeing s side ≡ 0 → SideFreed s (sideOf side) b a s′ →
+  pub free-accepted : {b a : ℕ} {s′ : List ℕ} → freeing s side ≡ 0 → RecordFreed s (sideOf side) b a s′ →
       Frees s side (record { refusal = record { number = 0 }; before = b; after = a }) s′
   free-accepted z f = record { answers = rw (z, f .counted, f .recounted) refl; leaves = f .leaves ∙ rw z refl }
-
--- a record is given again after a side was freed, and shows the count after
-module _ (s : List ℕ) (n : ℕ) (g : Given s n) (side : Side) {before after : ℕ} {s′ : List ℕ} (f : SideFreed s side before after s′) where
-  pub given-after : Given s′ n
-  given-after = subst (λ r. Given r n) (sym (f .leaves)) (freed-given s n g side)
-
-  pub shown-after : after ≡ shownCount s′
-  shown-after =
-      f .recounted
-      ∙ sym (ap₂ crossings (ap tableOf (f .leaves) ∙ freed-table s n g side) (ap layoutsOf (f .leaves) ∙ freed-layouts s n g side))
 
 -- ---- a run's refusals
 
@@ -114,10 +104,12 @@ module _ (s : List ℕ) (allowance : ℕ) where
       Runs s allowance (record { refusal = record { number = k }; first = 0; last = 0; turns = 0; settled = 0 }) s
   run-refused {k} e h = record { answers = rw (← e, ne-eqb k 0 h) refl; leaves = rw (← e, ne-eqb k 0 h) refl }
 
-  pub run-accepted : {f l t w : ℕ} {s′ : List ℕ} → running s allowance ≡ 0 → f ≡ shownCount s →
-      Turned s (ranTo s allowance) l t w s′ →
+  pub run-accepted : {f l t w : ℕ} {s′ : List ℕ} → running s allowance ≡ 0 → RecordRan s allowance f l t w s′ →
       Runs s allowance (record { refusal = record { number = 0 }; first = f; last = l; turns = t; settled = w }) s′
-  run-accepted z p e = record { answers = rw (z, p, e .last-count, e .taken, e .ended) refl; leaves = e .leaves ∙ rw z refl }
+  run-accepted z e = record {
+    answers = rw (z, e .first-count, e .last-count, e .taken, e .ended) refl;
+    leaves = e .leaves ∙ rw z refl;
+  }
 
 -- an allowance that is none, and one that is
 pub none-allowed : (k : ℕ) → k ≡ 0 → noAllowance k ≡ true

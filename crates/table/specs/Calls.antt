@@ -1,10 +1,10 @@
 -- What free and run answer, and what they leave in the record that was lent to them, for every input.
-use Prim.Native.Nat.{ℕ, _-_}
+use Prim.Native.Nat.{ℕ}
 use mathlib.Core.Path.{_≡_}
 use mathlib.Core.Bool.{cond}
 use mathlib.Core.List.{List}
 use Rattle.tanglegram.specs.Lists.{bit}
-use Rattle.tanglegram.specs.Run.{Side, right, End, more, go, run}
+use Rattle.tanglegram.specs.Run.{Side, End, run}
 use Rattle.tanglegram.specs.Table.{Layouts, crossings, free}
 use Rattle.record.specs.Calls.{refused, accepted, orZero}
 use Rattle.format.specs.Meaning.{tableOf, layoutsOf, relaid}
@@ -16,8 +16,8 @@ use Rattle.table.specs.Refusals.{freeing, running}
 
 -- ---- free
 
--- A side of s freed: the counts before and after, and the record afterwards.
-pub record SideFreed (s : List ℕ) (side : Side) (before after : ℕ) (s′ : List ℕ) : Type 0 where
+-- A side of an accepted record freed: the counts before and after, and the record afterwards.
+pub record RecordFreed (s : List ℕ) (side : Side) (before after : ℕ) (s′ : List ℕ) : Type 0 where
   pub counted : before ≡ shownCount s
   pub recounted : after ≡ crossings (tableOf s) (free (tableOf s) side (layoutsOf s))
   pub leaves : s′ ≡ relaid s (free (tableOf s) side (layoutsOf s))
@@ -39,16 +39,13 @@ pub record Frees (s : List ℕ) (side : ℕ) (answer : Freed) (s′ : List ℕ) 
 abbrev pub ranTo : List ℕ → ℕ → End Layouts
 ranTo s allowance = run (crossings (tableOf s)) (free (tableOf s)) allowance (layoutsOf s)
 
--- The turns of a run after the first, which led to s.
-abbrev pub onward : List ℕ → ℕ → End Layouts
-onward s allowance = more (go (crossings (tableOf s)) (free (tableOf s)) (allowance - 1) right (layoutsOf s))
-
--- A run of s that ends with e: its last count, its turns, whether it settled, and the record afterwards.
-pub record Turned (s : List ℕ) (e : End Layouts) (last turns settled : ℕ) (s′ : List ℕ) : Type 0 where
-  pub last-count : last ≡ crossings (tableOf s) (e .last)
-  pub taken : turns ≡ e .turns
-  pub ended : settled ≡ bit (e .settled)
-  pub leaves : s′ ≡ relaid s (e .last)
+-- A run of an accepted record: its first and last count, its turns, whether it settled, and the record afterwards.
+pub record RecordRan (s : List ℕ) (allowance first last turns settled : ℕ) (s′ : List ℕ) : Type 0 where
+  pub first-count : first ≡ shownCount s
+  pub last-count : last ≡ crossings (tableOf s) (ranTo s allowance .last)
+  pub taken : turns ≡ ranTo s allowance .turns
+  pub ended : settled ≡ bit (ranTo s allowance .settled)
+  pub leaves : s′ ≡ relaid s (ranTo s allowance .last)
 
 pub record Runs (s : List ℕ) (allowance : ℕ) (answer : Ran) (s′ : List ℕ) : Type 0 where
   pub answers : answer ≡ record {

@@ -6,7 +6,7 @@ use mathlib.Core.Logic.{_↔_}
 use mathlib.Core.Bool.{true}
 use mathlib.Core.List.{List, List·Permᴰ, List·Permᴰ·trans}
 use lib.ListN.{length}
-use Rattle.tanglegram.specs.Lists.{range, place}
+use Rattle.tanglegram.specs.Lists.{Each, range, place}
 use Rattle.tanglegram.specs.Tree.{Tree, leaves, rows, EachRow, tree, Rule}
 use Rattle.tanglegram.specs.Order.{byte, flip, mayChange, Choice}
 use Rattle.tanglegram.specs.Crossings.{pairs, back, end, between, own, ownAt, cost}
@@ -16,7 +16,7 @@ use Rattle.tanglegram.specs.Table.{Table, Layouts, pick, layout, put, li
 use Rattle.tanglegram.proofs.Tree.{leaves-once, rows-once}
 use Rattle.tanglegram.proofs.Order.{order-perm}
 use Rattle.tanglegram.proofs.Crossings.{count-left, count-right, pairs-cost, ends-apart, starts-apart}
-use Rattle.tanglegram.proofs.Freeing.{every-layout, length-freed, freed-exactly, freed-least, freed-same}
+use Rattle.tanglegram.proofs.Freeing.{every-layout, length-freed, freed-exactly, freed-least, freed-same, freed-bytes}
 use Rattle.tanglegram.proofs.Turning.{leaf-product}
 use Rattle.tanglegram.proofs.Run.{Freeing, Ends, run-ends}
 
@@ -94,11 +94,21 @@ module _ (T : Table) (F : Fair T) where
         (freed-same (seen T s side) (T .tree side) (F .row-count side) (F .numbered side) (layout s side) (fits side) le)
         ∙ put-same side s
 
-  free-fits : (side : Side) (s : Layouts) → Fits F s → Fits F (free T side s)
+  pub free-fits : (side : Side) (s : Layouts) → Fits F s → Fits F (free T side s)
   free-fits left s fits left = length-freed (seen T s left) (T .tree left) (s .left-bytes) ∙ fits left
   free-fits left s fits right = fits right
   free-fits right s fits left = fits left
   free-fits right s fits right = length-freed (seen T s right) (T .tree right) (s .right-bytes) ∙ fits right
+
+  -- bytes of 0 and 1 stay so
+  pub free-small : (side : Side) (s : Layouts) → Fits F s → ((x : Side) → Each (λ b. b ≤ 1) (layout s x)) →
+      (x : Side) → Each (λ b. b ≤ 1) (layout (free T side s) x)
+  free-small left s fits small left =
+      freed-bytes (seen T s left) (T .tree left) (F .row-count left) (F .numbered left) (s .left-bytes) (fits left) (small left)
+  free-small left s fits small right = small right
+  free-small right s fits small left = small left
+  free-small right s fits small right =
+      freed-bytes (seen T s right) (T .tree right) (F .row-count right) (F .numbered right) (s .right-bytes) (fits right) (small right)
 
   free-settles : (side : Side) (s : Layouts) → Fits F s → Least T side (free T side s)
   free-settles left s fits any h = free-least left s fits any (every-layout (s .left-bytes) any)
