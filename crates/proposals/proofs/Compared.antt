@@ -1,9 +1,10 @@
 -- Better of two: its refusals test by test, and from what the calls found to their statements.
 use Prim.Native.Nat.{ℕ, _≤_, _<_}
-use mathlib.Core.Path.{_≡_, refl, sym, ap}
+use mathlib.Core.Path.{_≡_, refl, sym, ap, _∙_}
 use mathlib.Core.Logic.{_≢_}
-use mathlib.Core.Bool.{true, false}
+use mathlib.Core.Bool.{Bool, true, false, cond}
 use mathlib.Core.List.{List, []}
+use native.Mathlib.Omega.{arith}
 use borrow.Author.Tests.{le-leb, lt-leb, ne-eqb}
 use lib.Dec.{lit≤}
 use lib.ListN.{length, take}
@@ -14,8 +15,9 @@ use Rattle.format.specs.Meaning.{tableOf}
 use Rattle.format.proofs.Acceptance.{else-first, none-both}
 use Rattle.format.proofs.Heading.{none-first, not-no}
 use Rattle.standing.specs.Sides.{Given, isSide, sideOf}
+use Rattle.proposals.specs.declared.answers.Compared.{Compared}
 use Rattle.proposals.specs.Refusals.{isOrder, comparing}
-use Rattle.proposals.specs.Calls.{countWith, betterPart, Betters, BetterChecks}
+use Rattle.proposals.specs.Calls.{countWith, firstBetter, betterPart, betterWhich, Betters, Compares, BetterChecks}
 use Rattle.standing.proofs.AsItStands.{given-size}
 use Rattle.proposals.proofs.Proposed.{order-within}
 
@@ -83,16 +85,56 @@ module _ (s : List ℕ) (side : ℕ) (first second : List ℕ) where
   pub better-checked : {k : ℕ} → k ≡ comparing s side first second → BetterChecks s side first second (record { number = k })
   better-checked e = record { answers = ap refused e }
 
-  pub better-refused : {k : ℕ} → k ≡ comparing s side first second → k ≢ 0 → Betters s side first second []
-  unfolding betterPart
-  better-refused {k} e h = record { answers = rw (← e, ne-eqb k 0 h) refl }
+  pub compare-refused : {k : ℕ} → k ≡ comparing s side first second → k ≢ 0 →
+      Compares s side first second (record { refusal = refused k; which = 0; length = 0 })
+  unfolding betterWhich
+  compare-refused {k} e h = record { answers = rw (← e, ne-eqb k 0 h) refl }
 
   module _ {n a b : ℕ} (none : comparing s side first second ≡ 0) (e : n ≡ sizeOf s)
       (p : a ≡ countWith s (sideOf side) first) (q : b ≡ countWith s (sideOf side) second) where
-    pub better-first : a ≤ b → Betters s side first second (take n first)
-    unfolding betterPart
-    better-first h = record { answers = rw (none, ← p, ← q, le-leb a b h, e) refl }
+    pub compare-first : a ≤ b → Compares s side first second (record { refusal = refused 0; which = 1; length = n })
+    unfolding betterWhich
+    compare-first h = record { answers = rw (none, ← p, ← q, le-leb a b h, e) refl }
 
-    pub better-second : b < a → Betters s side first second (take n second)
+    pub compare-second : b < a → Compares s side first second (record { refusal = refused 0; which = 2; length = n })
+    unfolding betterWhich
+    compare-second h = record { answers = rw (none, ← p, ← q, lt-leb a b h, e) refl }
+
+  -- from the answer in numbers to the part
+  module _ {c : Compared} (h : Compares s side first second c) where
+    compared-number : c .refusal .number ≡ comparing s side first second
+    compared-number = ap (λ r. r .refusal .number) (h .answers)
+
+    pub better-refused : c .refusal .number ≢ 0 → Betters s side first second []
     unfolding betterPart
-    better-second h = record { answers = rw (none, ← p, ← q, lt-leb a b h, e) refl }
+    better-refused some = record { answers = rw (← compared-number, ne-eqb (c .refusal .number) 0 some) refl }
+
+    module _ (none : c .refusal .number ≡ 0) where
+      nothing : comparing s side first second ≡ 0
+      nothing = sym compared-number ∙ none
+
+      compared-length : c .length ≡ sizeOf s
+      compared-length = ap (λ r. r .length) (h .answers) ∙ rw nothing refl
+
+      pub compared-ready : Ready s (c .length) side first second
+      compared-ready = ready nothing compared-length
+
+      compared-which : c .which ≡ cond (firstBetter s side first second) 1 2
+      unfolding betterWhich
+      compared-which = ap (λ r. r .which) (h .answers) ∙ rw nothing refl
+
+      pub better-second : c .which ≡ 2 → Betters s side first second (take (c .length) second)
+      unfolding betterPart
+      better-second two = go (firstBetter s side first second) refl
+        where
+          go : (b : Bool) → firstBetter s side first second ≡ b → Betters s side first second (take (c .length) second)
+          go true e = let one : c .which ≡ 1 = compared-which ∙ rw e refl in absurd (omega arith)
+          go false e = record { answers = rw (nothing, e, compared-length) refl }
+
+      pub better-first : c .which ≢ 2 → Betters s side first second (take (c .length) first)
+      unfolding betterPart
+      better-first other = go (firstBetter s side first second) refl
+        where
+          go : (b : Bool) → firstBetter s side first second ≡ b → Betters s side first second (take (c .length) first)
+          go true e = record { answers = rw (nothing, e, compared-length) refl }
+          go false e = absurd (other (compared-which ∙ rw e refl))
