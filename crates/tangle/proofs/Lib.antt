@@ -1,2 +1,2 @@
-pub mod Narrowing
+pub mod Widened
 pub mod Outcomes

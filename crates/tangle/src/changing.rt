@@ -6,8 +6,8 @@ ghost use Rattle.tangle.specs.ForC.{FreesForC, HandsForC, RunsForC, Sets
 use crate::answers::TangleFree;
 use crate::answers::TangleRefusal;
 use crate::answers::TangleRun;
-use crate::narrowing::in_16_bits;
 use crate::narrowing::in_8_bits;
+use crate::narrowing::in_16_bits;
 use hand_entries::hand_entries::HandEntry;
 
 // Sets the hold of any bytes: the letter in byte 5; or the refusal, and no byte.

@@ -3,8 +3,8 @@ ghost use Rattle.format.specs.Fields.{given};
 ghost use Rattle.tangle.specs.ForC.{PacksForC, UnpacksForC};
 use crate::answers::TangleRefusal;
 use crate::answers::TangleUnpack;
-use crate::narrowing::in_16_bits;
 use crate::narrowing::in_8_bits;
+use crate::narrowing::in_16_bits;
 
 // Parts made a record, in the first places of a buffer; or the refusal, and the buffer as it was.
 #[no_mangle]
@@ -35,7 +35,16 @@ pub extern "C" fn tangle_pack(
 {
     let letter = in_8_bits(hold);
     let size = in_16_bits(n);
-    let refusal = packing::pack(letter, size, left, right, links, leftlayout, rightlayout, out);
+    let refusal = packing::pack(
+        letter,
+        size,
+        left,
+        right,
+        links,
+        leftlayout,
+        rightlayout,
+        out,
+    );
     TangleRefusal {
         refusal: refusal.number as u32,
     }

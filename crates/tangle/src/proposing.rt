@@ -19,7 +19,12 @@ pub extern "C" fn tangle_better(s: &[u8], side: u32, first: &[u16], second: &[u1
 
 // The refusal that better of the two answers, and nothing counted.
 #[no_mangle]
-pub extern "C" fn tangle_better_check(s: &[u8], side: u32, first: &[u16], second: &[u16]) -> TangleRefusal
+pub extern "C" fn tangle_better_check(
+    s: &[u8],
+    side: u32,
+    first: &[u16],
+    second: &[u16],
+) -> TangleRefusal
     ensures { λ r. ⌜ BetterChecksForC (now (s .entry)) side (now (first .entry)) (now (second .entry)) r ⌝ }
 {
     let refusal = proposals::better_check(s, in_16_bits(side), first, second);
