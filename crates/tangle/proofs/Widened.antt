@@ -43,32 +43,35 @@ zero-no-side : isSide 0 ≡ false
 unfolding isSide
 zero-no-side = refl
 
-pub order-wide : {s out out′ : List ℕ} {side k : ℕ} {a : Refusal} → Narrowed 65536 side k → Orders s k out a out′ → Orders s side out a out′
-order-wide {s} {out} {out′} {side} {k} {a} w = widened (λ x. Orders s x out a out′) w (λ h p.
-    let e = ordering-13 s side out (no-side side h) in
-    let z = ordering-13 s 0 out zero-no-side in
-    record { answers = rw (← e) (rw (← z) at (p .answers)); leaves = rw (← e) (rw (← z) at (p .leaves)) })
+module _ {side k : ℕ} (w : Narrowed 65536 side k) where
+  by-side : (P : ℕ → Type 0) → (isSide side ≡ false → P 0 → P side) → P k → P side
+  by-side P alike = widened P w (λ h. alike (no-side side h))
 
-pub free-wide : {s s′ : List ℕ} {side k : ℕ} {a : Freed} → Narrowed 65536 side k → Frees s k a s′ → Frees s side a s′
-free-wide {s} {s′} {side} {k} {a} w = widened (λ x. Frees s x a s′) w (λ h p.
-    let e = freeing-13 s side (no-side side h) in
-    let z = freeing-13 s 0 zero-no-side in
-    record { answers = rw (← e) (rw (← z) at (p .answers)); leaves = rw (← e) (rw (← z) at (p .leaves)) })
+  pub order-wide : {s out out′ : List ℕ} {a : Refusal} → Orders s k out a out′ → Orders s side out a out′
+  order-wide {s} {out} {out′} {a} = by-side (λ x. Orders s x out a out′) (λ no p.
+      let z = ordering-13 s 0 out zero-no-side in
+      let e = ordering-13 s side out no in
+      record { answers = rw (← e) (rw (← z) at (p .answers)); leaves = rw (← e) (rw (← z) at (p .leaves)) })
 
-pub compare-wide : {s first second : List ℕ} {side k : ℕ} {a : Compared} → Narrowed 65536 side k →
-    Compares s k first second a → Compares s side first second a
-unfolding betterWhich
-compare-wide {s} {first} {second} {side} {k} {a} w = widened (λ x. Compares s x first second a) w (λ h p.
-    let e = comparing-13 s side first second (no-side side h) in
-    let z = comparing-13 s 0 first second zero-no-side in
-    record { answers = rw (← e) (rw (← z) at (p .answers)) })
+  pub free-wide : {s s′ : List ℕ} {a : Freed} → Frees s k a s′ → Frees s side a s′
+  free-wide {s} {s′} {a} = by-side (λ x. Frees s x a s′) (λ no p.
+      let z = freeing-13 s 0 zero-no-side in
+      let e = freeing-13 s side no in
+      record { answers = rw (← e) (rw (← z) at (p .answers)); leaves = rw (← e) (rw (← z) at (p .leaves)) })
 
-pub better-check-wide : {s first second : List ℕ} {side k : ℕ} {a : Refusal} → Narrowed 65536 side k →
-    BetterChecks s k first second a → BetterChecks s side first second a
-better-check-wide {s} {first} {second} {side} {k} {a} w = widened (λ x. BetterChecks s x first second a) w (λ h p.
-    let e = comparing-13 s side first second (no-side side h) in
-    let z = comparing-13 s 0 first second zero-no-side in
-    record { answers = rw (← e) (rw (← z) at (p .answers)) })
+  pub compare-wide : {s first second : List ℕ} {a : Compared} → Compares s k first second a → Compares s side first second a
+  unfolding betterWhich
+  compare-wide {s} {first} {second} {a} = by-side (λ x. Compares s x first second a) (λ no p.
+      let z = comparing-13 s 0 first second zero-no-side in
+      let e = comparing-13 s side first second no in
+      record { answers = rw (← e) (rw (← z) at (p .answers)) })
+
+  pub better-check-wide : {s first second : List ℕ} {a : Refusal} →
+      BetterChecks s k first second a → BetterChecks s side first second a
+  better-check-wide {s} {first} {second} {a} = by-side (λ x. BetterChecks s x first second a) (λ no p.
+      let z = comparing-13 s 0 first second zero-no-side in
+      let e = comparing-13 s side first second no in
+      record { answers = p .answers ∙ ap refused (sym z ∙ e) })
 
 -- ---- hold letters
 
@@ -92,8 +95,8 @@ holding-4 s letter h = rw h refl
 
 pub hold-wide : {s s′ : List ℕ} {letter k : ℕ} {a : Refusal} → Narrowed 256 letter k → SetsHold s k a s′ → SetsHold s letter a s′
 hold-wide {s} {s′} {letter} {k} {a} w = widened (λ x. SetsHold s x a s′) w (λ h p.
-    let e = holding-4 s letter (no-letter letter h) in
     let z = holding-4 s 0 zero-no-letter in
+    let e = holding-4 s letter (no-letter letter h) in
     record { answers = rw (← e) (rw (← z) at (p .answers)); leaves = rw (← e) (rw (← z) at (p .leaves)) })
 
 -- ---- packing: its letter and n
@@ -105,6 +108,15 @@ no-size x h = rw (ne-eqb x 0 (λ e. omega arith), lt-ltb 512 x (omega arith)) re
 zero-no-size : noSize 0 ≡ true
 unfolding noSize
 zero-no-size = refl
+
+-- parts that are refused alike
+packs-alike : {P Q : Parts} {out out′ : List ℕ} {a : Refusal} {c : ℕ} → c ≢ 0 → c ≡ packing P out → c ≡ packing Q out →
+    Packs P out a out′ → Packs Q out a out′
+packs-alike {P} {Q} {out} {c = c} some z e p = record {
+  answers = p .answers ∙ ap refused (sym z ∙ e);
+  leaves =
+      (rw (← z) at (p .leaves)) ∙ sym (lent-refused c (packed P) out some) ∙ rw (← e) (lent-refused c (packed Q) out some);
+}
 
 module _ (left right links left-layout right-layout out : List ℕ) where
   abbrev parts : ℕ → ℕ → Parts
@@ -118,30 +130,19 @@ module _ (left right links left-layout right-layout out : List ℕ) where
   unfolding packing shape
   pack-5 hold n h m = rw (h, m) refl
 
-  letter-wide : {out′ : List ℕ} {hold n k : ℕ} {a : Refusal} → Narrowed 256 hold k →
-      Packs (parts k n) out a out′ → Packs (parts hold n) out a out′
-  letter-wide {out′} {hold} {n} {k} {a} w = widened (λ x. Packs (parts x n) out a out′) w (λ h p.
-      let e = pack-4 hold n (no-letter hold h) in
-      let z = pack-4 0 n zero-no-letter in
-      record { answers = rw (← e) (rw (← z) at (p .answers)); leaves = rw (← e) (rw (← z) at (p .leaves)) })
+  module _ {out′ : List ℕ} {a : Refusal} where
+    letter-wide : {hold n k : ℕ} → Narrowed 256 hold k → Packs (parts k n) out a out′ → Packs (parts hold n) out a out′
+    letter-wide {hold} {n} w =
+        widened (λ x. Packs (parts x n) out a out′) w
+        (λ h. packs-alike (λ e. omega arith) (pack-4 0 n zero-no-letter) (pack-4 hold n (no-letter hold h)))
 
-  size-wide : {out′ : List ℕ} {hold n k : ℕ} {a : Refusal} → Narrowed 65536 n k →
-      Packs (parts hold k) out a out′ → Packs (parts hold n) out a out′
-  size-wide {out′} {hold} {n} {k} {a} w = widened (λ x. Packs (parts hold x) out a out′) w (λ h p. go (isHold hold) refl h p)
-    where
-      alike : {c : ℕ} → c ≢ 0 → c ≡ packing (parts hold 0) out → c ≡ packing (parts hold n) out →
-          Packs (parts hold 0) out a out′ → Packs (parts hold n) out a out′
-      alike {c} some z e p = record {
-        answers = p .answers ∙ ap refused (sym z ∙ e);
-        leaves =
-            (rw (← z) at (p .leaves)) ∙ sym (lent-refused c (packed (parts hold 0)) out some)
-            ∙ rw (← e) (lent-refused c (packed (parts hold n)) out some);
-      }
+    size-wide : {hold n k : ℕ} → Narrowed 65536 n k → Packs (parts hold k) out a out′ → Packs (parts hold n) out a out′
+    size-wide {hold} {n} w = widened (λ x. Packs (parts hold x) out a out′) w (λ h. go h (isHold hold) refl)
+      where
+        go : 65536 ≤ n → (b : Bool) → isHold hold ≡ b → Packs (parts hold 0) out a out′ → Packs (parts hold n) out a out′
+        go h true b = packs-alike (λ e. omega arith) (pack-5 hold 0 b zero-no-size) (pack-5 hold n b (no-size n h))
+        go h false b = packs-alike (λ e. omega arith) (pack-4 hold 0 b) (pack-4 hold n b)
 
-      go : (b : Bool) → isHold hold ≡ b → 65536 ≤ n → Packs (parts hold 0) out a out′ → Packs (parts hold n) out a out′
-      go true b h = alike (λ e. omega arith) (pack-5 hold 0 b zero-no-size) (pack-5 hold n b (no-size n h))
-      go false b h = alike (λ e. omega arith) (pack-4 hold 0 b) (pack-4 hold n b)
-
-  pub pack-wide : {out′ : List ℕ} {hold letter n size : ℕ} {a : Refusal} → Narrowed 256 hold letter → Narrowed 65536 n size →
-      Packs (parts letter size) out a out′ → Packs (parts hold n) out a out′
-  pack-wide u v p = letter-wide u (size-wide v p)
+    pub pack-wide : {hold letter n size : ℕ} → Narrowed 256 hold letter → Narrowed 65536 n size →
+        Packs (parts letter size) out a out′ → Packs (parts hold n) out a out′
+    pack-wide u v p = letter-wide u (size-wide v p)

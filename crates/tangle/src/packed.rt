@@ -33,11 +33,9 @@ pub extern "C" fn tangle_pack(
         (now (out .exit))
         ⌝ }
 {
-    let letter = in_8_bits(hold);
-    let size = in_16_bits(n);
     let refusal = packing::pack(
-        letter,
-        size,
+        in_8_bits(hold),
+        in_16_bits(n),
         left,
         right,
         links,
