@@ -5,12 +5,12 @@ use mathlib.Core.Logic.{_≢_}
 use mathlib.Core.Bool.{Bool, true, false, cond}
 use mathlib.Core.List.{List, []}
 use native.Mathlib.Omega.{arith}
-use borrow.Author.Tests.{le-leb, lt-leb, ne-eqb}
-use lib.Dec.{lit≤}
+use borrow.Author.Tests.{le-leb, lt-leb, eqb-true, eq-eqb, ne-eqb}
+use lib.Dec.{eqb, lit≤}
 use lib.ListN.{length, take}
 use Rattle.format.specs.Fields.{sizeOf}
 use Rattle.format.specs.Refusals.{refusal}
-use Rattle.record.specs.Calls.{refused}
+use Rattle.record.specs.Calls.{refused, accepted, orZero}
 use Rattle.format.specs.Meaning.{tableOf}
 use Rattle.format.proofs.Acceptance.{else-first, none-both}
 use Rattle.format.proofs.Heading.{none-first, not-no}
@@ -100,41 +100,37 @@ module _ (s : List ℕ) (side : ℕ) (first second : List ℕ) where
     unfolding betterWhich
     compare-second h = record { answers = rw (none, ← p, ← q, lt-leb a b h, e) refl }
 
-  -- from the answer in numbers to the part
+  -- from the answer in numbers to the part: so many entries of that order, none of the first where anything is refused
   module _ {c : Compared} (h : Compares s side first second c) where
-    compared-number : c .refusal .number ≡ comparing s side first second
-    compared-number = ap (λ r. r .refusal .number) (h .answers)
+    compared-length : c .length ≡ orZero (comparing s side first second) (sizeOf s)
+    compared-length = ap (λ r. r .length) (h .answers)
 
-    pub better-refused : c .refusal .number ≢ 0 → Betters s side first second []
-    unfolding betterPart
-    better-refused some = record { answers = rw (← compared-number, ne-eqb (c .refusal .number) 0 some) refl }
+    compared-which : c .which ≡ betterWhich s side first second
+    compared-which = ap (λ r. r .which) (h .answers)
 
-    module _ (none : c .refusal .number ≡ 0) where
-      nothing : comparing s side first second ≡ 0
-      nothing = sym compared-number ∙ none
+    abbrev Part : List ℕ → Type 0
+    Part xs = (c .length ≤ length xs) × Betters s side first second (take (c .length) xs)
 
-      compared-length : c .length ≡ sizeOf s
-      compared-length = ap (λ r. r .length) (h .answers) ∙ rw nothing refl
+    compared-part : Part (cond (eqb (c .which) 2) second first)
+    unfolding betterWhich betterPart
+    compared-part = go (accepted (comparing s side first second)) refl (firstBetter s side first second) refl
+      where
+        go : (b : Bool) → accepted (comparing s side first second) ≡ b → (d : Bool) → firstBetter s side first second ≡ d →
+            Part (cond (eqb (c .which) 2) second first)
+        go false e d f =
+            let n : c .length ≡ 0 = compared-length ∙ rw e refl in
+            (omega arith, record { answers = rw (n, e) refl })
+        go true e true f =
+            let n : c .length ≡ sizeOf s = compared-length ∙ rw e refl in
+            let w : c .which ≡ 1 = compared-which ∙ rw (e, f) refl in
+            rw (w, n) (ready (eqb-true _ _ e) refl .long-first, record { answers = rw (e, f) refl })
+        go true e false f =
+            let n : c .length ≡ sizeOf s = compared-length ∙ rw e refl in
+            let w : c .which ≡ 2 = compared-which ∙ rw (e, f) refl in
+            rw (w, n) (ready (eqb-true _ _ e) refl .long-second, record { answers = rw (e, f) refl })
 
-      pub compared-ready : Ready s (c .length) side first second
-      compared-ready = ready nothing compared-length
+    pub better-second : c .which ≡ 2 → Part second
+    better-second e = rw (eq-eqb (c .which) 2 e) at compared-part
 
-      compared-which : c .which ≡ cond (firstBetter s side first second) 1 2
-      unfolding betterWhich
-      compared-which = ap (λ r. r .which) (h .answers) ∙ rw nothing refl
-
-      pub better-second : c .which ≡ 2 → Betters s side first second (take (c .length) second)
-      unfolding betterPart
-      better-second two = go (firstBetter s side first second) refl
-        where
-          go : (b : Bool) → firstBetter s side first second ≡ b → Betters s side first second (take (c .length) second)
-          go true e = let one : c .which ≡ 1 = compared-which ∙ rw e refl in absurd (omega arith)
-          go false e = record { answers = rw (nothing, e, compared-length) refl }
-
-      pub better-first : c .which ≢ 2 → Betters s side first second (take (c .length) first)
-      unfolding betterPart
-      better-first other = go (firstBetter s side first second) refl
-        where
-          go : (b : Bool) → firstBetter s side first second ≡ b → Betters s side first second (take (c .length) first)
-          go true e = record { answers = rw (nothing, e, compared-length) refl }
-          go false e = absurd (other (compared-which ∙ rw e refl))
+    pub better-first : c .which ≢ 2 → Part first
+    better-first e = rw (ne-eqb (c .which) 2 e) at compared-part

@@ -109,9 +109,6 @@ pub fn better<'a>(s: &[u8], side: u16, first: &'a [u16], second: &'a [u16]) -> &
     ensures { λ r. ⌜ Betters (now (s .entry)) side (now (first .entry)) (now (second .entry)) (now r) ⌝ }
 {
     let compared = compare(s, side, first, second);
-    if compared.refusal.number != 0 {
-        return &first[..0];
-    }
     let k = compared.length as usize;
     if compared.which == 2 {
         return &second[..k];
