@@ -165,7 +165,7 @@ static int agree(void) {
            found.entanglement.has_ratio == 1 && found.better.length == N && memcmp(packed, made, BYTES) == 0;
 }
 
-/* A tree, and the order that it has with every layout byte 0: 1 if that is 1 to n, -1 if it is n to 1, 0 for another. */
+/* A tree, and its order with every layout byte 0: 1 if that is 1 to n, -1 if it is n to 1, 0 for another. */
 static const struct {
     const char *name;
     rows_t *rows;

@@ -1,7 +1,7 @@
 # What the measurements and the test of the calls for C share; sourced from the repository's root. After x86_tools,
-# `tool` is the prefix of a compiler and binutils for x86-64, the kind of machine the archive is for, and `emulator` runs
-# what they make: nothing on x86-64, the kit's emulator on Arm. What is missing is installed. `archive NAME` proves a
-# library and writes its archive; on Arm it also keeps the LLVM module that the archive is compiled from, as
+# `tool` is the prefix of a compiler and binutils for x86-64, the kind of machine the archive is for, and `emulator`
+# runs what they make: nothing on x86-64, the kit's emulator on Arm. What is missing is installed. `archive NAME` proves
+# a library and writes its archive; on Arm it also keeps the LLVM module that the archive is compiled from, as
 # target/measure/NAME.bc.
 kit=$(dirname "$(dirname "$(rt doc)")")
 machine=$(uname -m)

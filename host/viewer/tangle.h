@@ -175,7 +175,8 @@ struct tangle_refusal tangle_better_check(const uint8_t *record, size_t length, 
 /* ---- calls between a record and its parts
  *
  * The parts of a record over n leaves are 2(n-1) numbers for the rows of the left and as many for those of the right,
- * upper then lower, row after row; n links, the right leaf of left leaf 1, 2 and so on; n-1 layout bytes for each side. */
+ * upper then lower, row after row; n links, the right leaf of left leaf 1, 2 and so on; and n-1 layout bytes for each
+ * side. */
 
 /* Makes a record of its parts: writes 12n-2 bytes to the first places of the buffer, and nothing beyond them.
  * TANGLE_MOST_BYTES places are enough for any parts.

@@ -1,6 +1,7 @@
-/* Checks the thirteen calls for C against document 01: the bench examples, every refusal, in the order of tests, numbers
- * wider than 8 and 16 bits, and that a refused call changes no byte, nor any call one that it was not lent. Numbers are
- * literals, from the paper or worked out by hand. Prints each check that failed; ends with 0 only if none did.
+/* Checks the thirteen calls for C against document 01: the bench examples, every refusal, in the order of tests,
+ * numbers wider than 8 and 16 bits, that a refused call changes no byte, and that none writes beyond what it was lent.
+ * Numbers are literals, from the paper or worked out by hand. Prints each check that failed; ends with 0 only if none
+ * did.
  */
 #include <stdio.h>
 #include <string.h>

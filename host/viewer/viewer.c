@@ -2,10 +2,10 @@
  *
  *     viewer [SIDE:ROW ..] < RECORD
  *
- * Prints its crossings, its two leaf orders and its entanglement; what freeing the left, freeing the right and a run with
- * the largest allowance come to, each from the record as read; and, where entries of a hand list are given, the
- * crossings once their rows are turned over. A refusal is printed in the place of its numbers, with its words. Ends with
- * 0, with 1 if a call was refused, and with 2 if a word is no entry.
+ * Prints its crossings, its two leaf orders and its entanglement; what freeing the left, freeing the right and a run
+ * with the largest allowance come to, each from the record as read; and, where entries of a hand list are given, the
+ * crossings once their rows are turned over. A refusal is printed in the place of its numbers, with its words. Ends
+ * with 0, with 1 if a call was refused, and with 2 if a word is no entry.
  */
 #include <errno.h>
 #include <stdio.h>

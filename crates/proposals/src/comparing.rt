@@ -74,7 +74,7 @@ pub fn better_check(s: &[u8], side: u16, first: &[u16], second: &[u16]) -> Refus
     }
 }
 
-// Which of two lent orders crosses less, the first one on a tie, and how many of its entries are meant; or the refusal.
+// Which of two lent orders crosses less, the first one on a tie, and how many of its entries count; or the refusal.
 pub fn compare(s: &[u8], side: u16, first: &[u16], second: &[u16]) -> Compared
     ensures { λ r. ⌜ Compares (now (s .entry)) side (now (first .entry)) (now (second .entry)) r ⌝ }
 {

@@ -1,5 +1,5 @@
-// The calls for C that change the lent record, and nothing else: hold, free, run and hand lists. A refused call changes
-// no byte.
+// The calls for C that change the lent record, and nothing else: hold, free, run and hand lists. A refused call
+// changes no byte.
 ghost use mathlib.Core.List.{map};
 ghost use Rattle.hand_entries.specs.Entries.{handIn};
 ghost use Rattle.tangle.specs.ForC.{FreesForC, HandsForC, RunsForC, SetsHoldForC};

@@ -1,5 +1,5 @@
-// Numbers of 32 bits as the 16 or 8 bits that the calls take. One that does not fit becomes 0, which is no side, no size
-// and no hold letter either, so that the call refuses it as it refuses the wide number.
+// Numbers of 32 bits as the 16 or 8 bits that the calls take. One that does not fit becomes 0, which is no side, no n
+// and no hold letter either: the call refuses it as the wide number is to be refused.
 ghost use Rattle.tangle.specs.Narrowed.{Narrowed};
 
 // x, or 0 where it does not fit 16 bits.
