@@ -1,4 +1,4 @@
--- What better of two and its check call answer, for every input.
+-- What better of two, as a part and in numbers, and its check call answer, for every input.
 use Prim.Native.Nat.{ℕ}
 use mathlib.Core.Path.{_≡_}
 use mathlib.Core.Bool.{Bool, cond}

@@ -1,4 +1,5 @@
-// The calls for C between a record and its parts: pack and unpack. A refused call writes to no buffer.
+// The calls for C between a record and its parts, five lists with the hold and n: pack and unpack. A refused call
+// writes to no buffer.
 ghost use Rattle.format.specs.Fields.{given};
 ghost use Rattle.tangle.specs.ForC.{PacksForC, UnpacksForC};
 use crate::answers::TangleRefusal;

@@ -1,4 +1,5 @@
-// The calls for C on two proposed orders: better of the two, and its check. Neither writes anything.
+// The calls for C on two proposed orders: better of the two, told in numbers since C can't be handed a part, and its
+// check. Neither writes anything.
 ghost use Rattle.tangle.specs.ForC.{BetterChecksForC, ComparesForC};
 use crate::answers::TangleBetter;
 use crate::answers::TangleRefusal;

@@ -1,4 +1,5 @@
-// The calls for C that only show a record: check, order, count, pairs and entanglement.
+// The calls for C that only show a record: check, order, count, pairs and entanglement. None writes to the record; an
+// order is written to its buffer, unless it is refused.
 ghost use mathlib.Core.Path.{_≡_};
 ghost use Rattle.tangle.specs.ForC.{ChecksForC, CountsForC, EntanglesForC, noRatio, OrdersForC};
 use crate::answers::TangleCount;

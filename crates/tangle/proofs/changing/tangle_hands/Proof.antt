@@ -38,7 +38,8 @@ use denote.Triple.Clauses.{ensured, lasts}
 use denote.Triple.Entry.{Vals, onEntry}
 use denote.Triple.Spec.{Meets, tripleOf}
 use denote.Triple.Table.{entered, cited}
-use denote.Triple.Walked.{says, Stays, stay-slice, stay-none-slice, walkOf, goes-slice, goes-none-slice, Walks, ends-at, walked, walk-meets}
+use denote.Triple.Walked.{says, Stays, stay-slice, stay-none-slice, walkOf, goes-slice, goes-none-slice}
+use denote.Triple.Walked.{Walks, ends-at, walked, walk-meets}
 use denote.Exit.{yes}
 use Rattle.format.specs.declared.refusal.Refusal.{Refusal}
 use Rattle.format.proofs.refusal.Refusal as E
@@ -147,7 +148,8 @@ module _ {M : Type 1} (𝓤 : URA M) (H : Heap 𝓤) (A : Atoms 𝓤) (W : Given
       Room u8 m → Room R n → ent 𝓤 (onEntry 𝓤 H A hands.signature (κ, (κ′, tt)) (q, (q′, tt)) (x γ) at)
       (WpFn 𝓤 H (𝓣 .C) (𝓣 .Λ) code.function (sliceVal (b, o) m ∷ sliceVal (b′, o′) n ∷ []) Post)
   walk 𝓣 known gm gn =
-      qed W ((‵ (flft κ q) ⊛ ‵ (flft κ′ q′) ⊛ ‵ ftrue) ∷ ‵ (owns (MutSlice (named 0) κ u8 ∷ ShrSlice (named 1) κ′ R ∷ []) (x γ) at) ∷ []) ∵
+      qed W ((‵ (flft κ q) ⊛ ‵ (flft κ′ q′) ⊛ ‵ ftrue)
+      ∷ ‵ (owns (MutSlice (named 0) κ u8 ∷ ShrSlice (named 1) κ′ R ∷ []) (x γ) at) ∷ []) ∵
       enter ! (𝓣 .C) (𝓣 .Λ) code.function (sliceVal (b, o) m ∷ sliceVal (b′, o′) n ∷ []) _ $
       alloc1 ! (λ l₀. alloc1 ! (λ l₁. alloc1 ! (λ l₂. alloc1 ! (λ l₃. alloc1 ! (λ l₄. alloc1 ! (λ l₅. alloc1 ! (λ l₆. alloc0 ! $ params1 ! $
       pass1 ! (init ! 10 refl (tt, (tt, (record { fits = gm .0 }, tt)))) $
