@@ -1,18 +1,20 @@
 #!/usr/bin/env bash
-# Peak stack of every call (crates/gauge_calls) over 512 leaves, arrays included: trees deep on the upper or the lower
-# side, balanced and random ones, on either side of the table, with layouts of 0, of 1 and mixed. Prints for each call
-# the record that takes most, and the bytes together with the record's own 6,142. Ends with 1 if that is more than 40
-# KiB for a call, or if a call refuses. Runs on x86-64, and on Arm by a cross compiler and the kit's emulator.
+# Peak stack of every call (crates/tangle) over 512 leaves, arrays included: trees deep on the upper or the lower side,
+# balanced and random ones, on either side of the table, with layouts of 0, of 1 and mixed. Prints for each call the
+# record that takes most, and the bytes together with the record's own 6,142. Ends with 1 if that is more than the limit
+# for a call, if an order takes more stack than its own, or if a call refuses or answers another order than expected.
+# Runs on x86-64, and on Arm by a cross compiler and the kit's emulator.
 set -euo pipefail
 cd "$(dirname "$0")/../.."
 . host/measure/tools.sh
 x86_tools
+limit=40960 order_limit=24576 record=6142
 
-archive gauge_calls
-linked target/measure/calls target/staticlib/libgauge_calls.a host/measure/calls.c
+archive tangle
+linked target/measure/calls target/staticlib/libtangle.a host/measure/calls.c
 "${emulator[@]}" target/measure/calls > target/measure/calls.out
 
-awk -v limit=40960 -v record=6142 '
+awk -v limit="$limit" -v order_limit="$order_limit" -v record="$record" '
   !($1 in most) { name[++calls] = $1 }
   $5 > most[$1] { most[$1] = $5; left[$1] = $2; right[$1] = $3; layout[$1] = $4 }
   END {
@@ -24,6 +26,8 @@ awk -v limit=40960 -v record=6142 '
         (all > limit ? "  above the limit" : "")
       if (all > worst) worst = all
     }
+    order = most["order"]
+    printf "order: %d bytes of stack; limit: %d\n", order, order_limit
     printf "most: %d bytes of stack, %d with the record; limit: %d\n", worst - record, worst, limit
-    exit (worst > limit || calls != 13)
+    exit (worst > limit || order > order_limit || order == 0 || calls != 13)
   }' target/measure/calls.out

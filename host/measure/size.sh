@@ -1,17 +1,17 @@
 #!/usr/bin/env bash
 # Code and constant data of an archive's functions, and whether they fit 64 KiB together with the record and the
-# largest stack: size.sh [NAME], the library whose archive is measured, `viewer` if none is named. Prints the bytes of
+# largest stack: size.sh [NAME], the library whose archive is measured, `tangle` if none is named. Prints the bytes of
 # each part; ends with 1 if they are more than 65,536 together. The stack is the most that host/measure/calls.sh finds.
 # C's functions that the code calls (it names them) are outside, and so is the caller's own code and memory.
 set -euo pipefail
 cd "$(dirname "$0")/../.."
 . host/measure/tools.sh
 x86_tools
-name=${1:-viewer}
+name=${1:-tangle}
 limit=65536 record=6142
 
 bash host/measure/calls.sh > target/measure/calls.txt || { cat target/measure/calls.txt; exit 1; }
-[ "$name" = gauge_calls ] || archive "$name" # calls.sh made that one
+[ "$name" = tangle ] || archive "$name" # calls.sh made that one
 stack=$(sed -n 's/^most: \([0-9]*\) bytes of stack.*/\1/p' target/measure/calls.txt)
 
 # The sections that a linked program holds in memory: code, constants, and data that changes, of which there is none.

@@ -7,28 +7,33 @@
 #include <string.h>
 #include <time.h>
 
-#include "calls.h"
+#include "../viewer/tangle.h"
 
-enum { MOST_BYTES = 6142, MOST_TURNS = 130818, BATCHES = 9, BATCH = 50000000 };
+enum { BATCHES = 9, BATCH = 50000000 };
+
+/* The answer of a run is too large for registers: x86-64's convention hands its place over as a first argument. It is
+ * written so here, since the same module compiled for Arm keeps that argument. */
+struct tangle_run *run_into(struct tangle_run *answer, uint8_t *record, size_t length, uint32_t allowance)
+    __asm__("tangle_run");
 
 typedef void call_t(void);
 
-static uint8_t record[MOST_BYTES + 1], lent[MOST_BYTES];
+static uint8_t record[TANGLE_MOST_BYTES + 1], lent[TANGLE_MOST_BYTES];
 static size_t bytes;
-static struct count counted;
-static struct freed freed;
-static struct ran ran;
+static struct tangle_count counted;
+static struct tangle_free freed;
+static struct tangle_run ran;
 
-static void count(void) { counted = gauge_count(record, bytes); }
+static void count(void) { counted = tangle_count(record, bytes); }
 
 static void free_left(void) {
     memcpy(lent, record, bytes);
-    freed = gauge_free(lent, bytes, 1);
+    freed = tangle_free(lent, bytes, TANGLE_LEFT);
 }
 
 static void run(void) {
     memcpy(lent, record, bytes);
-    gauge_run(&ran, lent, bytes, MOST_TURNS);
+    run_into(&ran, lent, bytes, TANGLE_MOST_TURNS);
 }
 
 static double nanoseconds(call_t *call, long calls) {
@@ -39,7 +44,7 @@ static double nanoseconds(call_t *call, long calls) {
         __asm__ volatile("" ::: "memory");
     }
     clock_gettime(CLOCK_MONOTONIC, &end);
-    return (end.tv_sec - start.tv_sec) * 1e9 + (end.tv_nsec - start.tv_nsec);
+    return (double)(end.tv_sec - start.tv_sec) * 1e9 + (double)(end.tv_nsec - start.tv_nsec);
 }
 
 static int less(const void *a, const void *b) {
@@ -51,7 +56,7 @@ static double median(call_t *call) {
     long calls = 1;
     while (nanoseconds(call, calls) < BATCH) calls *= 2;
     double batches[BATCHES];
-    for (int i = 0; i < BATCHES; i++) batches[i] = nanoseconds(call, calls) / calls;
+    for (int i = 0; i < BATCHES; i++) batches[i] = nanoseconds(call, calls) / (double)calls;
     qsort(batches, BATCHES, sizeof *batches, less);
     return batches[BATCHES / 2];
 }
@@ -64,9 +69,9 @@ static call_t *named(const char *name) {
 }
 
 static void print_answer(call_t *call) {
-    if (call == count) printf("%u %u\n", counted.number, counted.count);
-    if (call == free_left) printf("%u %u %u\n", freed.number, freed.before, freed.after);
-    if (call == run) printf("%u %u %u %u %u\n", ran.number, ran.first, ran.last, ran.turns, ran.settled);
+    if (call == count) printf("%u %u\n", counted.refusal, counted.count);
+    if (call == free_left) printf("%u %u %u\n", freed.refusal, freed.before, freed.after);
+    if (call == run) printf("%u %u %u %u %u\n", ran.refusal, ran.first, ran.last, ran.turns, ran.settled);
 }
 
 int main(int argc, char **argv) {
@@ -78,7 +83,7 @@ int main(int argc, char **argv) {
     }
     bytes = fread(record, 1, sizeof record, file);
     fclose(file);
-    if (bytes > MOST_BYTES || gauge_check(record, bytes) != 0) {
+    if (bytes > TANGLE_MOST_BYTES || tangle_check(record, bytes).refusal != 0) {
         fprintf(stderr, "the record is refused\n");
         return 1;
     }

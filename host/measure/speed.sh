@@ -17,7 +17,7 @@ compiled_here() { # the archive's module compiled for this machine, as $work/cal
   local compiler=$kit/on/$machine/toolchain/bin/clang
   # As text, without what names x86-64: its layout of data, its name, and its processor.
   "$compiler" --no-default-config --target=x86_64-unknown-linux-gnu -S -emit-llvm -O3 -Xclang -disable-llvm-passes \
-    -x ir target/measure/gauge_calls.bc -o "$work/module.ll"
+    -x ir target/measure/tangle.bc -o "$work/module.ll"
   sed -i -e '/^target /d' -e 's/ "target-cpu"="x86-64"//' "$work/module.ll"
   "$compiler" --no-default-config "--target=$machine-unknown-linux-gnu" -ffunction-sections -fdata-sections -fPIC \
     -O3 -Werror -Wno-override-module -c -x ir "$work/module.ll" -o "$work/calls.o"
@@ -26,12 +26,12 @@ compiled_here() { # the archive's module compiled for this machine, as $work/cal
 if ! { command -v gcc && command -v cargo; } > /dev/null; then
   { apt-get update && apt-get install -y --no-install-recommends gcc libc6-dev cargo; } > /dev/null
 fi
-archive gauge_calls
+archive tangle
 case $machine in
-  x86_64) calls=target/staticlib/libgauge_calls.a ;;
+  x86_64) calls=target/staticlib/libtangle.a ;;
   *) compiled_here; calls=$work/calls.o ;;
 esac
-gcc -O2 -Wall -Wextra -Werror -o "$work/speed" host/measure/speed.c "$calls"
+gcc "${strict[@]}" -o "$work/speed" host/measure/speed.c "$calls"
 cargo build --quiet --release --manifest-path host/peer/Cargo.toml --target-dir target/peer
 peer=target/peer/release/peer
 

@@ -1,7 +1,8 @@
-# What the measurements share; sourced from the repository's root. After x86_tools, `tool` is the prefix of a compiler
-# and binutils for x86-64, the kind of machine the archive is for, and `emulator` runs what they make: nothing on
-# x86-64, the kit's emulator on Arm. What is missing is installed. `archive NAME` proves a library and writes its
-# archive; on Arm it also keeps the LLVM module that the archive is compiled from, as target/measure/NAME.bc.
+# What the measurements and the test of the calls for C share; sourced from the repository's root. After x86_tools,
+# `tool` is the prefix of a compiler and binutils for x86-64, the kind of machine the archive is for, and `emulator`
+# runs what they make: nothing on x86-64, the kit's emulator on Arm. What is missing is installed. `archive NAME` proves
+# a library and writes its archive; on Arm it also keeps the LLVM module that the archive is compiled from, as
+# target/measure/NAME.bc.
 kit=$(dirname "$(dirname "$(rt doc)")")
 machine=$(uname -m)
 mkdir -p target/measure
@@ -52,9 +53,12 @@ archive() { # NAME
   if [ -n "${ARCHIVES:-}" ]; then touch "$ARCHIVES/$1"; fi
 }
 
+# How every C file here is compiled: a number that is cut down or changes its sign without a cast is an error.
+strict=(-O2 -Wall -Wextra -Wconversion -Wsign-conversion -Werror)
+
 # Links C files with an archive; statically, so that no call looks a function of C's up on the measured stack.
 linked() { # PROGRAM ARCHIVE FILE..
   local program=$1 archive=$2
   shift 2
-  "${tool}gcc" -O2 -Wall -Wextra -Werror -static -o "$program" "$@" "$archive"
+  "${tool}gcc" "${strict[@]}" -static -o "$program" "$@" "$archive"
 }

@@ -12,44 +12,44 @@ static inline uint16_t below(uint16_t most) {
     state ^= state << 13;
     state ^= state >> 17;
     state ^= state << 5;
-    return state % most;
+    return (uint16_t)(state % most);
 }
 
 /* Upper deep: (1,2), (n+1,3), (n+2,4), .. with the order 1 to n. */
 static void upper_deep(uint16_t *rows, uint16_t n) {
     for (uint16_t i = 1; i < n; i++) {
-        rows[2 * i - 2] = i == 1 ? 1 : n + i - 1;
-        rows[2 * i - 1] = i + 1;
+        rows[2 * i - 2] = (uint16_t)(i == 1 ? 1 : n + i - 1);
+        rows[2 * i - 1] = (uint16_t)(i + 1);
     }
 }
 
 /* Lower deep: (2,1), (3,n+1), (4,n+2), .. with the order n to 1. */
 static void lower_deep(uint16_t *rows, uint16_t n) {
     for (uint16_t i = 1; i < n; i++) {
-        rows[2 * i - 2] = i + 1;
-        rows[2 * i - 1] = i == 1 ? 1 : n + i - 1;
+        rows[2 * i - 2] = (uint16_t)(i + 1);
+        rows[2 * i - 1] = (uint16_t)(i == 1 ? 1 : n + i - 1);
     }
 }
 
 /* Balanced, where n is a power of 2: (1,2), (3,4), .. with the order 1 to n. */
 static void balanced(uint16_t *rows, uint16_t n) {
     for (uint16_t i = 1; i < n; i++) {
-        rows[2 * i - 2] = 2 * i - 1;
-        rows[2 * i - 1] = 2 * i;
+        rows[2 * i - 2] = (uint16_t)(2 * i - 1);
+        rows[2 * i - 1] = (uint16_t)(2 * i);
     }
 }
 
 /* Any two objects that are not under a row yet, again and again. */
 static inline void joined(uint16_t *rows, uint16_t n) {
     uint16_t pool[512];
-    for (uint16_t i = 0; i < n; i++) pool[i] = i + 1;
+    for (uint16_t i = 0; i < n; i++) pool[i] = (uint16_t)(i + 1);
     for (uint16_t i = 1; i < n; i++) {
         for (int entry = 2; entry >= 1; entry--) {
-            uint16_t most = n - i + entry - 1, k = below(most);
+            uint16_t most = (uint16_t)(n - i + entry - 1), k = below(most);
             rows[2 * i - entry] = pool[k];
             pool[k] = pool[most - 1];
         }
-        pool[n - i - 1] = n + i;
+        pool[n - i - 1] = (uint16_t)(n + i);
     }
 }
 

@@ -18,8 +18,7 @@ beside_the_peer() {
 
 for_the_device() {
   bash host/viewer/test.sh
-  bash host/measure/stack.sh
-  bash host/measure/size.sh gauge_calls
+  bash host/measure/size.sh
   cat target/measure/calls.txt
 }
 

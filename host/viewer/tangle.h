@@ -1,12 +1,16 @@
-/* The comparison table's calls for C (crates/viewer, target/staticlib/libviewer.a).
+/* The comparison table's calls for C: all thirteen (crates/tangle, target/staticlib/libtangle.a, which `rt staticlib
+ * tangle` writes).
  *
- * A record is lent as a pointer and a length in bytes; any bytes may be lent. The caller sees to this only: each
- * pointer is to memory of that length, not null even where the length is 0, and what one call may change nothing else
- * reads or changes during the call. Nothing is kept after it.
+ * Memory is lent for the length of a call, as a pointer and how many bytes, places or entries are there; any bytes and
+ * any numbers may stand in it. The caller sees to this only: each pointer is to memory of that length, not null even
+ * where the length is 0, and what one call may change nothing else reads or changes during the call. Nothing is kept
+ * after it, and no call asks for memory of its own but the stack.
  *
  * Each call answers a struct of numbers by value, the refusal first: 0, or the number of the first test that failed, in
  * the order given with the call. A refused call answers zero for every other number and leaves every byte as found. One
- * that is not refused changes layout bytes of the lent record at most, and no other byte.
+ * that is not refused changes what is said with the call, and no other byte.
+ *
+ * Sides, letters, n and allowances are 32 bits wide, and each is tested as it is: side 257 and side 65,537 are refused.
  *
  * The archive is x86-64 code.
  */
@@ -20,15 +24,15 @@
 extern "C" {
 #endif
 
-/* Refusals, by document 01's numbers. 14 and 16 are for calls that C does not have. */
-enum tangle_refusal {
+/* Refusals, by document 01's numbers. */
+enum tangle_number {
     TANGLE_ACCEPTED = 0,
     TANGLE_SHORT = 1,      /* fewer than 8 bytes */
     TANGLE_MARK = 2,       /* the mark isn't TGP */
     TANGLE_VERSION = 3,    /* the version isn't 1 */
     TANGLE_HOLD = 4,       /* the hold isn't one of the four letters N, L, R, B */
     TANGLE_SIZE = 5,       /* n is 0 or above 512 */
-    TANGLE_LENGTH = 6,     /* the length isn't 12n-2 */
+    TANGLE_LENGTH = 6,     /* the length isn't 12n-2; in packing, a list has the wrong length */
     TANGLE_LEFT_ROW = 7,   /* a left row breaks the tree rule */
     TANGLE_RIGHT_ROW = 8,  /* a right row breaks the tree rule */
     TANGLE_LINKS = 9,      /* the links aren't one-to-one on 1 to n */
@@ -37,18 +41,45 @@ enum tangle_refusal {
                               side, even if no byte would end up different */
     TANGLE_ALLOWANCE = 12, /* the allowance is 0 or above 130,818 */
     TANGLE_SIDE = 13,      /* the side isn't 1 (left) or 2 (right) */
+    TANGLE_ROOM = 14,      /* an output buffer has too few places */
     TANGLE_ROW = 15,       /* the row is 0 or above n-1 */
+    TANGLE_ORDER = 16,     /* a proposed order has fewer than n entries, or its first n aren't a compatible order */
     TANGLE_HANDS = 17      /* the hand list is longer than 1,024 */
 };
 
 enum tangle_side { TANGLE_LEFT = 1, TANGLE_RIGHT = 2 };
 
-/* The longest record, in bytes; the largest allowance of a run; the most entries of a hand list. */
-enum tangle_limit { TANGLE_MOST_BYTES = 6142, TANGLE_MOST_TURNS = 130818, TANGLE_MOST_HANDS = 1024 };
+/* Which of two orders is the better one. */
+enum tangle_which { TANGLE_FIRST = 1, TANGLE_SECOND = 2 };
+
+/* Hold letters: nothing is held, the left is, the right is, both are. */
+enum tangle_letter { TANGLE_HOLD_NONE = 'N', TANGLE_HOLD_LEFT = 'L', TANGLE_HOLD_RIGHT = 'R', TANGLE_HOLD_BOTH = 'B' };
+
+/* The most leaves; the longest record, in bytes; the largest allowance of a run; the most entries of a hand list. */
+enum tangle_limit {
+    TANGLE_MOST_LEAVES = 512,
+    TANGLE_MOST_BYTES = 6142,
+    TANGLE_MOST_TURNS = 130818,
+    TANGLE_MOST_HANDS = 1024
+};
+
+/* ---- answers */
+
+struct tangle_refusal {
+    uint32_t refusal;
+};
 
 struct tangle_count {
     uint32_t refusal;
     uint32_t count; /* at most 130,816 */
+};
+
+struct tangle_entanglement {
+    uint32_t refusal;
+    uint32_t displacement; /* D; 0 for a single leaf */
+    uint32_t worst;        /* W; 0 for a single leaf */
+    uint32_t has_ratio;    /* 1, or 0 for a single leaf */
+    double ratio;          /* D divided by W; 0.0 where there is none */
 };
 
 struct tangle_free {
@@ -65,16 +96,16 @@ struct tangle_run {
     uint32_t settled; /* 1 if settled, 0 if not */
 };
 
-struct tangle_entanglement {
+struct tangle_better {
     uint32_t refusal;
-    uint32_t displacement; /* D; 0 for a single leaf */
-    uint32_t worst;        /* W; 0 for a single leaf */
-    uint32_t has_ratio;    /* 1, or 0 for a single leaf */
-    double ratio;          /* D divided by W; 0.0 where there is none */
+    uint32_t which;  /* TANGLE_FIRST or TANGLE_SECOND */
+    uint32_t length; /* n: the better order is the first n entries of that one */
 };
 
-struct tangle_hands {
+struct tangle_unpack {
     uint32_t refusal;
+    uint32_t hold; /* one of the four letters */
+    uint32_t n;
 };
 
 /* An entry of a hand list: the row of that side is turned over. */
@@ -83,29 +114,87 @@ struct tangle_entry {
     uint16_t row;
 };
 
-/* How many links cross. Reads the record.
+/* ---- calls that show a record, and only read it */
+
+/* Whether the bytes are a record.
+ * Refused: 1 to 10. */
+struct tangle_refusal tangle_check(const uint8_t *record, size_t length);
+
+/* A side's leaf order: writes its n leaves, from the top down, to the first n of the buffer's places, and nothing
+ * beyond them. TANGLE_MOST_LEAVES places are enough for any record.
+ * Refused: 13, then 1 to 10, then 14 if there are fewer than n places. */
+struct tangle_refusal tangle_order(const uint8_t *record, size_t length, uint32_t side, uint16_t *order, size_t places);
+
+/* How many links cross, counted by seen places.
  * Refused: 1 to 10. */
 struct tangle_count tangle_count(const uint8_t *record, size_t length);
+
+/* The same number, counted pair by pair, to hold the other against.
+ * Refused: 1 to 10. */
+struct tangle_count tangle_pairs(const uint8_t *record, size_t length);
+
+/* How far the two orders are apart: D, the sum over the links of the square of left place less right place, against its
+ * worst value W.
+ * Refused: 1 to 10. */
+struct tangle_entanglement tangle_entanglement(const uint8_t *record, size_t length);
+
+/* ---- calls that change the lent record */
+
+/* Sets the hold: byte 5 becomes the letter, and no other byte changes.
+ * Refused: 4 if the letter isn't one of the four, then 1 to 10. */
+struct tangle_refusal tangle_hold(uint8_t *record, size_t length, uint32_t letter);
 
 /* Frees a side: turns each of its rows exactly if that makes the row's own crossings strictly fewer, the other side
  * standing as it is. Changes that side's layout bytes.
  * Refused: 13, then 1 to 10, then 11 if that side is held. */
-struct tangle_free tangle_free(uint8_t *record, size_t length, uint16_t side);
+struct tangle_free tangle_free(uint8_t *record, size_t length, uint32_t side);
 
 /* Frees the left, the right and so on, until a turn other than the first gains nothing (settled), or the allowance of
  * turns is used up. Changes layout bytes of both sides.
  * Refused: 12, then 1 to 10, then 11 if a side is held. */
 struct tangle_run tangle_run(uint8_t *record, size_t length, uint32_t allowance);
 
-/* How far the two orders are apart: D, the sum over the links of the square of left place less right place, against its
- * worst value W. Reads the record.
- * Refused: 1 to 10. */
-struct tangle_entanglement tangle_entanglement(const uint8_t *record, size_t length);
-
 /* Turns one row over for each entry, entry after entry. Reads the list, of that many entries, and changes layout bytes
  * of the sides that it names. An empty list is accepted whatever is held.
  * Refused: 17, then 1 to 10, then by the first bad entry: 13, 15, 11 if its side is held. */
-struct tangle_hands tangle_hands(uint8_t *record, size_t length, const struct tangle_entry *list, size_t entries);
+struct tangle_refusal tangle_hands(uint8_t *record, size_t length, const struct tangle_entry *list, size_t entries);
+
+/* ---- calls on two orders proposed for a side; they only read */
+
+/* Which of the two crosses less against the other side's present order, the first on a tie. Of each order the first n
+ * entries are looked at, and those beyond are not.
+ * Refused: 13, then 1 to 10, then 16 for the first order, then 16 for the second. */
+struct tangle_better tangle_better(const uint8_t *record, size_t length, uint32_t side, const uint16_t *first,
+                                   size_t first_entries, const uint16_t *second, size_t second_entries);
+
+/* What tangle_better refuses, without counting.
+ * Refused: as there. */
+struct tangle_refusal tangle_better_check(const uint8_t *record, size_t length, uint32_t side, const uint16_t *first,
+                                          size_t first_entries, const uint16_t *second, size_t second_entries);
+
+/* ---- calls between a record and its parts
+ *
+ * The parts of a record over n leaves are 2(n-1) numbers for the rows of the left and as many for those of the right,
+ * upper then lower, row after row; n links, the right leaf of left leaf 1, 2 and so on; and n-1 layout bytes for each
+ * side. */
+
+/* Makes a record of its parts: writes 12n-2 bytes to the first places of the buffer, and nothing beyond them.
+ * TANGLE_MOST_BYTES places are enough for any parts.
+ * Refused: 4 if the hold isn't one of the four letters, 5, 6 if a list has the wrong length, 7 to 10, then 14 if there
+ * are fewer than 12n-2 places. */
+struct tangle_refusal tangle_pack(uint32_t hold, uint32_t n, const uint16_t *left_rows, size_t left_length,
+                                  const uint16_t *right_rows, size_t right_length, const uint16_t *links,
+                                  size_t links_length, const uint8_t *left_layout, size_t left_layout_length,
+                                  const uint8_t *right_layout, size_t right_layout_length, uint8_t *record,
+                                  size_t places);
+
+/* Takes a record apart: answers its hold and n, and writes each part to the first places of its buffer, and nothing
+ * beyond them. Reads the record.
+ * Refused: 1 to 10, then 14 if a buffer has fewer places than its part has numbers. */
+struct tangle_unpack tangle_unpack(const uint8_t *record, size_t length, uint16_t *left_rows, size_t left_places,
+                                   uint16_t *right_rows, size_t right_places, uint16_t *links, size_t links_places,
+                                   uint8_t *left_layout, size_t left_layout_places, uint8_t *right_layout,
+                                   size_t right_layout_places);
 
 #ifdef __cplusplus
 }

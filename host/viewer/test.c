@@ -1,6 +1,7 @@
-/* Checks the calls for C against document 01: the bench examples, every refusal that a call for C can give, in the
- * order of tests, and that a refused call changes no byte. Numbers are literals, from the paper or worked out by hand.
- * Prints each check that failed; ends with 0 only if none did.
+/* Checks the thirteen calls for C against document 01: the bench examples, every refusal, in the order of tests,
+ * numbers wider than 8 and 16 bits, that a refused call changes no byte, and that none writes beyond what it was lent.
+ * Numbers are literals, from the paper or worked out by hand. Prints each check that failed; ends with 0 only if none
+ * did.
  */
 #include <stdio.h>
 #include <string.h>
@@ -12,14 +13,19 @@ _Static_assert(sizeof(struct tangle_free) == 12, "three");
 _Static_assert(sizeof(struct tangle_run) == 20, "five");
 _Static_assert(sizeof(struct tangle_entanglement) == 24, "four, and a double");
 _Static_assert(offsetof(struct tangle_entanglement, ratio) == 16, "the double is last");
-_Static_assert(sizeof(struct tangle_hands) == 4, "one");
+_Static_assert(sizeof(struct tangle_refusal) == 4, "one");
+_Static_assert(sizeof(struct tangle_better) == 12 && sizeof(struct tangle_unpack) == 12, "three");
 _Static_assert(sizeof(struct tangle_entry) == 4 && offsetof(struct tangle_entry, row) == 2, "two numbers of 16 bits");
 _Static_assert(TANGLE_ACCEPTED == 0 && TANGLE_SHORT == 1 && TANGLE_MARK == 2 && TANGLE_VERSION == 3, "01");
 _Static_assert(TANGLE_HOLD == 4 && TANGLE_SIZE == 5 && TANGLE_LENGTH == 6 && TANGLE_LEFT_ROW == 7, "01");
 _Static_assert(TANGLE_RIGHT_ROW == 8 && TANGLE_LINKS == 9 && TANGLE_LAYOUT == 10, "01");
 _Static_assert(TANGLE_HELD == 11 && TANGLE_ALLOWANCE == 12 && TANGLE_SIDE == 13, "01");
-_Static_assert(TANGLE_ROW == 15 && TANGLE_HANDS == 17, "01");
-_Static_assert(TANGLE_MOST_BYTES == 6142 && TANGLE_MOST_TURNS == 130818 && TANGLE_MOST_HANDS == 1024, "01");
+_Static_assert(TANGLE_ROOM == 14 && TANGLE_ROW == 15 && TANGLE_ORDER == 16 && TANGLE_HANDS == 17, "01");
+_Static_assert(TANGLE_LEFT == 1 && TANGLE_RIGHT == 2 && TANGLE_FIRST == 1 && TANGLE_SECOND == 2, "01");
+_Static_assert(TANGLE_HOLD_NONE == 78 && TANGLE_HOLD_LEFT == 76, "ASCII");
+_Static_assert(TANGLE_HOLD_RIGHT == 82 && TANGLE_HOLD_BOTH == 66, "ASCII");
+_Static_assert(TANGLE_MOST_LEAVES == 512 && TANGLE_MOST_BYTES == 6142, "01");
+_Static_assert(TANGLE_MOST_TURNS == 130818 && TANGLE_MOST_HANDS == 1024, "01");
 
 /* Room for n = 513, and fences before and after what is lent. */
 enum { MOST = 12 * 513 - 2, FENCE = 16 };
@@ -126,18 +132,102 @@ static void same_bytes(int line, const struct record *as)
     check(line, "a byte differs", memcmp(r.room, as->room, sizeof r.room) != 0, 0);
 }
 
-static void count(int line, uint32_t refusal, uint32_t expected)
+static void checked(int line, uint32_t refusal)
 {
-    struct tangle_count c;
-
     kept = r;
-    c = tangle_count(bytes(), r.length);
-    check(line, "refusal", c.refusal, refusal);
-    check(line, "count", c.count, expected);
+    check(line, "refusal", tangle_check(bytes(), r.length).refusal, refusal);
     same_bytes(line, &kept);
 }
 
-static void free_side(int line, uint16_t side, uint32_t refusal, uint32_t before, uint32_t after)
+static void count(int line, uint32_t refusal, uint32_t expected)
+{
+    struct tangle_count c, p;
+
+    kept = r;
+    c = tangle_count(bytes(), r.length);
+    p = tangle_pairs(bytes(), r.length);
+    check(line, "refusal", c.refusal, refusal);
+    check(line, "count", c.count, expected);
+    check(line, "refusal of pairs", p.refusal, refusal);
+    check(line, "count by pairs", p.count, expected);
+    same_bytes(line, &kept);
+}
+
+/* Buffers of 16-bit numbers, with a fence before and after the places that are lent. */
+enum { MOST_PLACES = 1024, UNTOUCHED = 0xa5a5 };
+
+struct buffer {
+    uint16_t room[FENCE + MOST_PLACES + FENCE];
+};
+
+static void clear(struct buffer *b)
+{
+    for (size_t i = 0; i < FENCE + MOST_PLACES + FENCE; i++)
+        b->room[i] = UNTOUCHED;
+}
+
+static uint16_t *places(struct buffer *b)
+{
+    return b->room + FENCE;
+}
+
+/* The buffer holds this in its first bytes, and was not touched elsewhere. */
+static void holds(int line, const struct buffer *b, const void *content, size_t size)
+{
+    static struct buffer expected;
+
+    clear(&expected);
+    if (size != 0)
+        memcpy(places(&expected), content, size);
+    check(line, "a place of a buffer differs", memcmp(b->room, expected.room, sizeof expected.room) != 0, 0);
+}
+
+/* An order of n leaves, written as digits; empty where it is refused. */
+static void order(int line, uint32_t side, size_t lent, uint32_t refusal, const char *digits)
+{
+    static struct buffer out;
+    uint16_t leaves[9];
+    size_t n = strlen(digits);
+
+    for (size_t i = 0; i < n; i++)
+        leaves[i] = (uint16_t)(digits[i] - '0');
+    kept = r;
+    clear(&out);
+    check(line, "refusal", tangle_order(bytes(), r.length, side, places(&out), lent).refusal, refusal);
+    holds(line, &out, leaves, n * sizeof *leaves);
+    same_bytes(line, &kept);
+}
+
+static void set_hold(int line, uint32_t letter, uint32_t refusal)
+{
+    kept = r;
+    check(line, "refusal", tangle_hold(bytes(), r.length, letter).refusal, refusal);
+    if (refusal == 0)
+        kept.room[FENCE + 5] = (uint8_t)letter;
+    same_bytes(line, &kept);
+}
+
+/* Two orders, written as digits. */
+static void better(int line, uint32_t side, const char *one, const char *two, uint32_t refusal, uint32_t which)
+{
+    uint16_t first[9], second[9];
+    size_t k = strlen(one), m = strlen(two);
+    struct tangle_better b;
+
+    for (size_t i = 0; i < k; i++)
+        first[i] = (uint16_t)(one[i] - '0');
+    for (size_t i = 0; i < m; i++)
+        second[i] = (uint16_t)(two[i] - '0');
+    kept = r;
+    b = tangle_better(bytes(), r.length, side, first, k, second, m);
+    check(line, "refusal", b.refusal, refusal);
+    check(line, "which", b.which, which);
+    check(line, "length", b.length, refusal == 0 ? bytes()[6] * 256 + bytes()[7] : 0);
+    check(line, "check's refusal", tangle_better_check(bytes(), r.length, side, first, k, second, m).refusal, refusal);
+    same_bytes(line, &kept);
+}
+
+static void free_side(int line, uint32_t side, uint32_t refusal, uint32_t before, uint32_t after)
 {
     struct tangle_free f;
 
@@ -186,7 +276,7 @@ static struct tangle_entry list[TANGLE_MOST_HANDS + 1];
 
 static void hands(int line, size_t entries, uint32_t refusal)
 {
-    struct tangle_hands h;
+    struct tangle_refusal h;
 
     kept = r;
     h = tangle_hands(bytes(), r.length, list, entries);
@@ -202,9 +292,77 @@ static void hand(int line, uint16_t side, uint16_t row, uint32_t refusal)
     hands(line, 1, refusal);
 }
 
+/* ---- parts of a record */
+
+struct parts {
+    struct buffer left, right, links, left_layout, right_layout;
+};
+
+static struct parts parts;
+
+/* Layout buffers are bytes: the same room, two to a place. */
+static uint8_t *layout_places(struct buffer *b)
+{
+    return (uint8_t *)places(b);
+}
+
+/* Takes the record apart into buffers for n leaves, of which one may be a place short: 1 to 5, or 0 for none. */
+static struct tangle_unpack unpack(size_t n, int shortened)
+{
+    clear(&parts.left);
+    clear(&parts.right);
+    clear(&parts.links);
+    clear(&parts.left_layout);
+    clear(&parts.right_layout);
+    return tangle_unpack(bytes(), r.length, places(&parts.left), 2 * (n - 1) - (shortened == 1), places(&parts.right),
+                         2 * (n - 1) - (shortened == 2), places(&parts.links), n - (shortened == 3),
+                         layout_places(&parts.left_layout), n - 1 - (shortened == 4),
+                         layout_places(&parts.right_layout), n - 1 - (shortened == 5));
+}
+
+static void unpack_refused(int line, size_t n, int shortened, uint32_t refusal)
+{
+    struct tangle_unpack u;
+
+    kept = r;
+    u = unpack(n, shortened);
+    check(line, "refusal", u.refusal, refusal);
+    check(line, "hold", u.hold, 0);
+    check(line, "n", u.n, 0);
+    holds(line, &parts.left, NULL, 0);
+    holds(line, &parts.right, NULL, 0);
+    holds(line, &parts.links, NULL, 0);
+    holds(line, &parts.left_layout, NULL, 0);
+    holds(line, &parts.right_layout, NULL, 0);
+    same_bytes(line, &kept);
+}
+
+/* Packs what was last taken apart, over n leaves, as a record of another hold and size; one list may be a number too
+ * long: 1 to 5, or 0 for none. Where it is not refused, it is the record that was taken apart. */
+static void pack(int line, size_t n, uint32_t hold, uint32_t size, int longer, size_t lent, uint32_t refusal)
+{
+    static struct record made, clean;
+    struct tangle_refusal p;
+
+    memset(&made, 0xa5, sizeof made);
+    memset(&clean, 0xa5, sizeof clean);
+    p = tangle_pack(hold, size, places(&parts.left), 2 * (n - 1) + (longer == 1), places(&parts.right),
+                    2 * (n - 1) + (longer == 2), places(&parts.links), n + (longer == 3),
+                    layout_places(&parts.left_layout), n - 1 + (longer == 4), layout_places(&parts.right_layout),
+                    n - 1 + (longer == 5), made.room + FENCE, lent);
+    check(line, "refusal", p.refusal, refusal);
+    check(line, "a packed byte differs",
+          memcmp(made.room, refusal == 0 ? r.room : clean.room, sizeof made.room) != 0, 0);
+}
+
 /* A record that every call refuses by one number. */
 static void refused(int line, uint32_t number)
 {
+    checked(line, number);
+    order(line, TANGLE_LEFT, MOST_PLACES, number, "");
+    set_hold(line, TANGLE_HOLD_NONE, number);
+    better(line, TANGLE_LEFT, "4312", "1234", number, 0);
+    unpack_refused(line, 513, 0, number);
     count(line, number, 0);
     entanglement(line, number, 0, 0, 0, 0.0);
     free_side(line, TANGLE_LEFT, number, 0, 0);
@@ -230,6 +388,9 @@ static void examples_1_to_4(void)
 
     /* 1: linked so that only the left order 4 3 1 2 crosses nothing and stands opposite its links. */
     record('N', 4, caterpillar, balanced, by_order);
+    checked(__LINE__, 0);
+    order(__LINE__, TANGLE_LEFT, 4, 0, "4312");
+    order(__LINE__, TANGLE_RIGHT, 4, 0, "1234");
     count(__LINE__, 0, 0);
     entanglement(__LINE__, 0, 0, 20, 1, 0.0);
 
@@ -249,6 +410,7 @@ static void examples_1_to_4(void)
     case2('N');
     free_side(__LINE__, TANGLE_LEFT, 0, 5, 0);
     layouts(__LINE__, "011000");
+    order(__LINE__, TANGLE_LEFT, 4, 0, "1234");
     count(__LINE__, 0, 0);
     entanglement(__LINE__, 0, 0, 20, 1, 0.0);
     case2('N');
@@ -294,7 +456,10 @@ static void examples_7_to_9(void)
 
     /* 7 */
     record('N', 1, NULL, NULL, identity);
+    checked(__LINE__, 0);
     count(__LINE__, 0, 0);
+    order(__LINE__, TANGLE_RIGHT, 1, 0, "1");
+    better(__LINE__, TANGLE_LEFT, "1", "1", 0, TANGLE_FIRST);
     entanglement(__LINE__, 0, 0, 0, 0, 0.0);
     run(__LINE__, 2, 0, 0, 0, 2, 1);
     run(__LINE__, 1, 0, 0, 0, 1, 0);
@@ -343,6 +508,7 @@ static void examples_11_to_13(void)
 
     /* 12 */
     deep(512, 0);
+    checked(__LINE__, 0);
     count(__LINE__, 0, 0);
     run(__LINE__, 130818, 0, 0, 0, 2, 1);
     run(__LINE__, 130819, 12, 0, 0, 0, 0);
@@ -409,17 +575,25 @@ static void longer_than_16_bits(void)
 {
     static uint8_t s[65536 + 46];
     static struct tangle_entry many[65536];
+    uint16_t four[] = {4, 3, 1, 2};
     int changed = 0;
 
     case2('N');
     memcpy(s, bytes(), r.length);
+    check(__LINE__, "check's refusal", tangle_check(s, sizeof s).refusal, 6);
+    check(__LINE__, "an order's refusal", tangle_order(s, sizeof s, TANGLE_LEFT, four, 4).refusal, 6);
+    check(__LINE__, "a hold's refusal", tangle_hold(s, sizeof s, TANGLE_HOLD_LEFT).refusal, 6);
+    check(__LINE__, "better's refusal", tangle_better(s, sizeof s, TANGLE_LEFT, four, 4, four, 4).refusal, 6);
+    check(__LINE__, "its check's", tangle_better_check(s, sizeof s, TANGLE_LEFT, four, 4, four, 4).refusal, 6);
     check(__LINE__, "count's refusal", tangle_count(s, sizeof s).refusal, 6);
+    check(__LINE__, "pairs' refusal", tangle_pairs(s, sizeof s).refusal, 6);
     check(__LINE__, "freeing's refusal", tangle_free(s, sizeof s, TANGLE_LEFT).refusal, 6);
     check(__LINE__, "a run's refusal", tangle_run(s, sizeof s, 2).refusal, 6);
     check(__LINE__, "entanglement's refusal", tangle_entanglement(s, sizeof s).refusal, 6);
     check(__LINE__, "a hand list's refusal", tangle_hands(s, sizeof s, many, 0).refusal, 6);
     check(__LINE__, "a hand list's refusal", tangle_hands(s, 46, many, 65536).refusal, 17);
     check(__LINE__, "a byte of the record changed", memcmp(s, bytes(), r.length) != 0, 0);
+    check(__LINE__, "the buffer changed", four[0] == 4 && four[1] == 3 && four[2] == 1 && four[3] == 2, 1);
     for (size_t i = r.length; i < sizeof s; i++)
         changed |= s[i];
     check(__LINE__, "a byte after it changed", changed, 0);
@@ -477,6 +651,160 @@ static void hand_lists(void)
     hands(__LINE__, 1025, 17);
 }
 
+/* ---- orders, holds, better of two */
+
+static void orders(void)
+{
+    case2('B');
+    order(__LINE__, TANGLE_LEFT, 3, 14, "");
+    order(__LINE__, TANGLE_RIGHT, 0, 14, "");
+    order(__LINE__, TANGLE_LEFT, 4, 0, "4312");
+    order(__LINE__, TANGLE_LEFT, MOST_PLACES, 0, "4312");
+    order(__LINE__, 0, 4, 13, "");
+    order(__LINE__, 3, 4, 13, "");
+    r.length = 7; /* 13 comes before the record, 14 after it */
+    order(__LINE__, 3, 0, 13, "");
+    order(__LINE__, TANGLE_LEFT, 0, 1, "");
+}
+
+static void holds_set(void)
+{
+    case2('N');
+    set_hold(__LINE__, TANGLE_HOLD_LEFT, 0);
+    free_side(__LINE__, TANGLE_LEFT, 11, 0, 0);
+    set_hold(__LINE__, TANGLE_HOLD_BOTH, 0);
+    free_side(__LINE__, TANGLE_RIGHT, 11, 0, 0);
+    set_hold(__LINE__, TANGLE_HOLD_RIGHT, 0);
+    set_hold(__LINE__, TANGLE_HOLD_NONE, 0);
+    free_side(__LINE__, TANGLE_LEFT, 0, 5, 0);
+    set_hold(__LINE__, 0, 4);
+    set_hold(__LINE__, 'n', 4);
+    set_hold(__LINE__, 255, 4);
+    r.length = 7; /* the letter comes before the record */
+    set_hold(__LINE__, 'n', 4);
+    set_hold(__LINE__, TANGLE_HOLD_NONE, 1);
+}
+
+static void better_of_two(void)
+{
+    case2('B'); /* a hold is no matter */
+    better(__LINE__, TANGLE_LEFT, "4312", "1234", 0, TANGLE_SECOND); /* 5 crossings and 0 */
+    better(__LINE__, TANGLE_LEFT, "1234", "4312", 0, TANGLE_FIRST);
+    better(__LINE__, TANGLE_LEFT, "4123", "3214", 0, TANGLE_FIRST); /* 3 and 3 */
+    better(__LINE__, TANGLE_LEFT, "3214", "4123", 0, TANGLE_FIRST);
+    better(__LINE__, TANGLE_RIGHT, "1234", "4312", 0, TANGLE_SECOND);
+    better(__LINE__, TANGLE_LEFT, "43129", "123400", 0, TANGLE_SECOND); /* entries beyond n */
+    better(__LINE__, TANGLE_LEFT, "1324", "1234", 16, 0); /* 1 and 2 are apart */
+    better(__LINE__, TANGLE_LEFT, "1234", "1324", 16, 0);
+    better(__LINE__, TANGLE_LEFT, "123", "1234", 16, 0);
+    better(__LINE__, TANGLE_LEFT, "1234", "", 16, 0);
+    better(__LINE__, TANGLE_LEFT, "1134", "1234", 16, 0);
+    better(__LINE__, TANGLE_LEFT, "0000", "1234", 16, 0);
+    better(__LINE__, 0, "1324", "", 13, 0);
+    better(__LINE__, 3, "1234", "1234", 13, 0);
+    bytes()[45] = 2; /* 13, then the record, then 16 */
+    better(__LINE__, 3, "1324", "", 13, 0);
+    better(__LINE__, TANGLE_LEFT, "1324", "", 10, 0);
+}
+
+/* ---- packing and unpacking */
+
+static void parts_of_case2(void)
+{
+    static const uint8_t left_layout[] = {0, 1, 1}, right_layout[] = {0, 0, 0};
+    struct tangle_unpack u;
+
+    case2('N');
+    free_side(__LINE__, TANGLE_LEFT, 0, 5, 0);
+    set_hold(__LINE__, TANGLE_HOLD_LEFT, 0);
+    kept = r;
+    u = unpack(4, 0);
+    check(__LINE__, "refusal", u.refusal, 0);
+    check(__LINE__, "hold", u.hold, 'L');
+    check(__LINE__, "n", u.n, 4);
+    holds(__LINE__, &parts.left, caterpillar, sizeof caterpillar);
+    holds(__LINE__, &parts.right, balanced, sizeof balanced);
+    holds(__LINE__, &parts.links, identity, sizeof identity);
+    holds(__LINE__, &parts.left_layout, left_layout, sizeof left_layout);
+    holds(__LINE__, &parts.right_layout, right_layout, sizeof right_layout);
+    same_bytes(__LINE__, &kept);
+    pack(__LINE__, 4, 'L', 4, 0, 46, 0);
+    pack(__LINE__, 4, 'L', 4, 0, MOST, 0);
+    pack(__LINE__, 4, 'L', 4, 0, 45, 14);
+    pack(__LINE__, 4, 'L', 4, 0, 0, 14);
+    pack(__LINE__, 4, 'l', 4, 0, 46, 4);
+    pack(__LINE__, 4, 0, 0, 0, 46, 4);
+    pack(__LINE__, 4, 'L', 0, 0, 46, 5);
+    pack(__LINE__, 4, 'L', 513, 0, MOST, 5);
+    pack(__LINE__, 4, 'L', 5, 0, 46, 6);
+    for (int list = 1; list <= 5; list++) {
+        pack(__LINE__, 4, 'L', 4, list, 0, 6);
+        unpack_refused(__LINE__, 4, list, 14);
+    }
+}
+
+static void parts_refused(void)
+{
+    case2('N');
+    unpack(4, 0);
+    places(&parts.left)[0] = 7; /* the lists by their content, one after the other, before the room */
+    places(&parts.right)[0] = 7;
+    places(&parts.links)[0] = 2;
+    layout_places(&parts.left_layout)[2] = 2;
+    layout_places(&parts.right_layout)[0] = 255;
+    pack(__LINE__, 4, 'N', 4, 0, 0, 7);
+    places(&parts.left)[0] = 1;
+    pack(__LINE__, 4, 'N', 4, 0, 0, 8);
+    places(&parts.right)[0] = 1;
+    pack(__LINE__, 4, 'N', 4, 0, 0, 9);
+    places(&parts.links)[0] = 1;
+    pack(__LINE__, 4, 'N', 4, 0, 0, 10);
+    layout_places(&parts.left_layout)[2] = 0;
+    pack(__LINE__, 4, 'N', 4, 0, 0, 10);
+    layout_places(&parts.right_layout)[0] = 0;
+    pack(__LINE__, 4, 'N', 4, 0, 0, 14);
+    pack(__LINE__, 4, 'N', 4, 0, 46, 0);
+
+    deep(512, 1);
+    check(__LINE__, "refusal", unpack(512, 0).refusal, 0);
+    pack(__LINE__, 512, 'N', 512, 0, TANGLE_MOST_BYTES, 0);
+    pack(__LINE__, 512, 'N', 512, 0, TANGLE_MOST_BYTES - 1, 14);
+    record('R', 1, NULL, NULL, identity);
+    check(__LINE__, "refusal", unpack(1, 0).refusal, 0);
+    pack(__LINE__, 1, 'R', 1, 0, 10, 0);
+}
+
+/* ---- numbers whose low 8 or 16 bits would be accepted */
+
+static void wide_numbers(void)
+{
+    static const uint32_t no_left[] = {257, 65537, 131073, 0x80000001, UINT32_MAX};
+    static const uint32_t no_right[] = {258, 65538, 0xffff0002};
+    static const uint32_t no_letter[] = {334, 256 + 'L', 65536 + 'N', 0xffffff00 + 'B', UINT32_MAX};
+    static const uint32_t no_size[] = {65540, 131076, 0xffff0004, 65537, UINT32_MAX};
+
+    case2('N');
+    for (size_t i = 0; i < 5; i++) {
+        order(__LINE__, no_left[i], 4, 13, "");
+        free_side(__LINE__, no_left[i], 13, 0, 0);
+        better(__LINE__, no_left[i], "4312", "1234", 13, 0);
+    }
+    for (size_t i = 0; i < 3; i++) {
+        order(__LINE__, no_right[i], 4, 13, "");
+        free_side(__LINE__, no_right[i], 13, 0, 0);
+        better(__LINE__, no_right[i], "4312", "1234", 13, 0);
+    }
+    unpack(4, 0);
+    for (size_t i = 0; i < 5; i++) {
+        set_hold(__LINE__, no_letter[i], 4);
+        pack(__LINE__, 4, no_letter[i], 4, 0, 46, 4);
+        pack(__LINE__, 4, no_letter[i], no_size[i], 0, 46, 4);
+        pack(__LINE__, 4, 'N', no_size[i], 0, 46, 5);
+    }
+    run(__LINE__, 65536 + 65536, 12, 0, 0, 0, 0);
+    run(__LINE__, 0x80000002, 12, 0, 0, 0, 0);
+}
+
 int main(void)
 {
     examples_1_to_4();
@@ -487,6 +815,12 @@ int main(void)
     longer_than_16_bits();
     arguments_refused();
     hand_lists();
+    orders();
+    holds_set();
+    better_of_two();
+    parts_of_case2();
+    parts_refused();
+    wide_numbers();
     printf("test: %u checks, %u failed\n", checks, failures);
     return failures == 0 && checks != 0 ? 0 : 1;
 }

@@ -1,31 +1,17 @@
 #!/usr/bin/env bash
-# The calls for C: builds the archive of crates/viewer, compiles test.c and viewer.c against it, runs both. Ends with 0
+# The calls for C: builds the archive of crates/tangle, compiles test.c and viewer.c against it, runs both. Ends with 0
 # and one line that says so only if every check passed. Runs on x86-64, and on Arm by a cross compiler and the kit's
 # emulator.
 set -euo pipefail
 cd "$(dirname "$0")/../.."
-
-kit=$(dirname "$(dirname "$(rt doc)")")
-emulator=()
-case $(uname -m) in
-  x86_64)
-    tool='' packages=(gcc libc6-dev)
-    ;;
-  *)
-    tool=x86_64-linux-gnu- packages=(gcc-x86-64-linux-gnu libc6-dev-amd64-cross)
-    emulator=("$kit/on/$(uname -m)/toolchain/bin/qemu-x86_64")
-    ;;
-esac
-if ! command -v "${tool}gcc" > /dev/null; then
-  { apt-get update && apt-get install -y --no-install-recommends "${packages[@]}"; } > /dev/null
-fi
+. host/measure/tools.sh
+x86_tools
 
 out=target/viewer
 mkdir -p "$out"
-rt staticlib viewer > "$out/viewer.log" 2>&1 || { cat "$out/viewer.log"; exit 1; }
+archive tangle
 for program in test viewer; do
-  "${tool}gcc" -std=c11 -Wall -Wextra -Werror -pedantic -O2 -static -o "$out/$program" "host/viewer/$program.c" \
-    target/staticlib/libviewer.a
+  linked "$out/$program" target/staticlib/libtangle.a -std=c11 -pedantic "host/viewer/$program.c"
 done
 
 "${emulator[@]}" "$out/test"

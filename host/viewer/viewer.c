@@ -2,10 +2,10 @@
  *
  *     viewer [SIDE:ROW ..] < RECORD
  *
- * Prints its crossings and entanglement; what freeing the left, freeing the right and a run with the largest allowance
- * come to, each from the record as read; and, where entries of a hand list are given, the crossings once their rows are
- * turned over. A refusal is printed in the place of its numbers, with its words. Ends with 0, with 1 if a call was
- * refused, and with 2 if a word is no entry.
+ * Prints its crossings, its two leaf orders and its entanglement; what freeing the left, freeing the right and a run
+ * with the largest allowance come to, each from the record as read; and, where entries of a hand list are given, the
+ * crossings once their rows are turned over. A refusal is printed in the place of its numbers, with its words. Ends
+ * with 0, with 1 if a call was refused, and with 2 if a word is no entry.
  */
 #include <errno.h>
 #include <stdio.h>
@@ -36,7 +36,9 @@ static const char *words(uint32_t refusal)
         return "the call frees a held side, runs while a side is held, or has a hand entry for a held side";
     case TANGLE_ALLOWANCE: return "allowance 0 or above 130,818";
     case TANGLE_SIDE: return "side isn't 1 (left) or 2 (right)";
+    case TANGLE_ROOM: return "an output buffer has too few places";
     case TANGLE_ROW: return "row 0 or above n-1";
+    case TANGLE_ORDER: return "an order has fewer than n entries, or its first n aren't a compatible order";
     case TANGLE_HANDS: return "a hand list is longer than 1,024";
     default: return "a refusal without words";
     }
@@ -49,6 +51,32 @@ static int refused(uint32_t refusal)
         return 0;
     printf("REFUSED %u, %s\n", (unsigned)refusal, words(refusal));
     return 1;
+}
+
+/* The order's length is n, as the record's bytes 6 and 7 have it. */
+static int show_order(const struct record *r, uint32_t side, const char *name)
+{
+    uint16_t order[TANGLE_MOST_LEAVES];
+    struct tangle_refusal o = tangle_order(r->bytes, r->length, side, order, TANGLE_MOST_LEAVES);
+
+    printf("%s order: ", name);
+    if (refused(o.refusal))
+        return 1;
+    for (int i = 0; i < r->bytes[6] * 256 + r->bytes[7]; i++)
+        printf(i == 0 ? "%u" : " %u", (unsigned)order[i]);
+    printf("\n");
+    return 0;
+}
+
+static int show_crossings(const struct record *r)
+{
+    struct tangle_count c = tangle_count(r->bytes, r->length);
+
+    printf("crossings: ");
+    if (refused(c.refusal))
+        return 1;
+    printf("%u\n", (unsigned)c.count);
+    return 0;
 }
 
 static int show_entanglement(const struct record *r)
@@ -66,7 +94,7 @@ static int show_entanglement(const struct record *r)
 }
 
 /* Takes the record by value: freeing changes the copy. */
-static int show_free(struct record r, uint16_t side, const char *name)
+static int show_free(struct record r, uint32_t side, const char *name)
 {
     struct tangle_free f = tangle_free(r.bytes, r.length, side);
 
@@ -91,7 +119,7 @@ static int show_run(struct record r)
 
 static int show_hands(struct record r, const struct tangle_entry *list, size_t entries)
 {
-    struct tangle_hands h = tangle_hands(r.bytes, r.length, list, entries);
+    struct tangle_refusal h = tangle_hands(r.bytes, r.length, list, entries);
     struct tangle_count c;
 
     printf("by hand: ");
@@ -131,8 +159,7 @@ int main(int argc, char **argv)
 {
     static struct record r;
     struct tangle_entry *list = calloc((size_t)argc, sizeof *list);
-    struct tangle_count c;
-    int bad = 0;
+    int bad;
 
     if (list == NULL)
         return 2;
@@ -144,19 +171,17 @@ int main(int argc, char **argv)
         }
     r.length = fread(r.bytes, 1, sizeof r.bytes, stdin);
 
-    c = tangle_count(r.bytes, r.length);
-    printf("crossings: ");
-    if (refused(c.refusal)) {
-        free(list);
-        return 1;
+    bad = show_crossings(&r);
+    if (!bad) {
+        bad |= show_order(&r, TANGLE_LEFT, "left");
+        bad |= show_order(&r, TANGLE_RIGHT, "right");
+        bad |= show_entanglement(&r);
+        bad |= show_free(r, TANGLE_LEFT, "left");
+        bad |= show_free(r, TANGLE_RIGHT, "right");
+        bad |= show_run(r);
+        if (1 < argc)
+            bad |= show_hands(r, list, (size_t)argc - 1);
     }
-    printf("%u\n", (unsigned)c.count);
-    bad |= show_entanglement(&r);
-    bad |= show_free(r, TANGLE_LEFT, "left");
-    bad |= show_free(r, TANGLE_RIGHT, "right");
-    bad |= show_run(r);
-    if (1 < argc)
-        bad |= show_hands(r, list, (size_t)argc - 1);
     free(list);
     return bad;
 }

@@ -12,5 +12,6 @@ table-outcomes = record {
   run = λ s allowance a b x y p q. (same (p .answers) (q .answers), same (p .leaves) (q .leaves));
   hands = λ s hands a b p q. outcome (same (p .answers) (q .answers)) (same (p .leaves) (q .leaves));
   better = λ s side first second x y p q. same (p .answers) (q .answers);
+  compare = λ s side first second a b p q. same (p .answers) (q .answers);
   better-check = λ s side first second a b p q. same (p .answers) (q .answers);
 }

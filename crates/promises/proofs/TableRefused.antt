@@ -10,11 +10,11 @@ use Rattle.table.specs.Refusals.{freeing, running}
 use Rattle.hands.specs.Refusals.{handing}
 use Rattle.proposals.specs.Refusals.{comparing}
 use Rattle.views.specs.Calls.{entangled, numberOf, displacedIn, worstIn}
-use Rattle.proposals.specs.Calls.{betterPart}
+use Rattle.proposals.specs.Calls.{betterPart, betterWhich}
 use Rattle.promises.specs.TableRefused.{TableRefused}
 
 pub table-refused : TableRefused
-unfolding entangled betterPart
+unfolding entangled betterPart betterWhich
 table-refused = record {
   order = λ s side out answer out′ o h.
       o .leaves ∙ rw (ne-eqb (ordering s side out) 0 (λ z. h (ap (λ a. a .number) (o .answers) ∙ z))) refl;
@@ -35,6 +35,9 @@ table-refused = record {
   hands = λ s hands answer s′ o h.
       o .leaves ∙ rw (ne-eqb (handing s hands) 0 (λ z. h (ap (λ a. a .number) (o .answers) ∙ z))) refl;
   better = λ s side first second part o h. o .answers ∙ rw (ne-eqb (comparing s side first second) 0 h) refl;
+  compare = λ s side first second answer o h.
+      let e = ne-eqb (comparing s side first second) 0 (λ z. h (ap (λ a. a .refusal .number) (o .answers) ∙ z)) in
+      (ap (λ a. a .which) (o .answers) ∙ rw e refl, ap (λ a. a .length) (o .answers) ∙ rw e refl);
 }
   where
     no-entanglement : (answer : Entangled) → numberOf answer ≢ 0 → (displacedIn answer ≡ 0) × (worstIn answer ≡ 0)

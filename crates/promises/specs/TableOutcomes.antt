@@ -12,7 +12,8 @@ use Rattle.hands.specs.Refusals.{Hand}
 use Rattle.views.specs.Calls.{Orders, Counts, Entangles}
 use Rattle.table.specs.Calls.{Frees, Runs}
 use Rattle.hands.specs.Calls.{Hands}
-use Rattle.proposals.specs.Calls.{Betters, BetterChecks}
+use Rattle.proposals.specs.declared.answers.Compared.{Compared}
+use Rattle.proposals.specs.Calls.{Betters, Compares, BetterChecks}
 use Rattle.promises.specs.RecordOutcomes.{Outcome}
 
 pub record TableOutcomes : Type 0 where
@@ -26,5 +27,7 @@ pub record TableOutcomes : Type 0 where
   pub hands : (s : List ℕ) (hands : List Hand) (a b : Outcome) →
       Hands s hands (a .answer) (a .after) → Hands s hands (b .answer) (b .after) → a ≡ b
   pub better : (s : List ℕ) (side : ℕ) (first second x y : List ℕ) → Betters s side first second x → Betters s side first second y → x ≡ y
+  pub compare : (s : List ℕ) (side : ℕ) (first second : List ℕ) (a b : Compared) →
+      Compares s side first second a → Compares s side first second b → a ≡ b
   pub better-check : (s : List ℕ) (side : ℕ) (first second : List ℕ) (a b : Refusal) →
       BetterChecks s side first second a → BetterChecks s side first second b → a ≡ b

@@ -14,7 +14,8 @@ use Rattle.proposals.specs.Refusals.{comparing}
 use Rattle.views.specs.Calls.{Orders, Counts, Entangles, numberOf, displacedIn, worstIn}
 use Rattle.table.specs.Calls.{Frees, Runs}
 use Rattle.hands.specs.Calls.{Hands}
-use Rattle.proposals.specs.Calls.{Betters}
+use Rattle.proposals.specs.declared.answers.Compared.{Compared}
+use Rattle.proposals.specs.Calls.{Betters, Compares}
 
 pub record TableRefused : Type 0 where
   pub order : (s : List ℕ) (side : ℕ) (out : List ℕ) (answer : Refusal) (out′ : List ℕ) → Orders s side out answer out′ →
@@ -30,3 +31,5 @@ pub record TableRefused : Type 0 where
   -- Better of two answers a part; its check call's number says why that is empty.
   pub better : (s : List ℕ) (side : ℕ) (first second part : List ℕ) → Betters s side first second part →
       comparing s side first second ≢ 0 → part ≡ []
+  pub compare : (s : List ℕ) (side : ℕ) (first second : List ℕ) (answer : Compared) → Compares s side first second answer →
+      answer .refusal .number ≢ 0 → (answer .which ≡ 0) × (answer .length ≡ 0)

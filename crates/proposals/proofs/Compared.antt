@@ -1,21 +1,23 @@
 -- Better of two: its refusals test by test, and from what the calls found to their statements.
 use Prim.Native.Nat.{ℕ, _≤_, _<_}
-use mathlib.Core.Path.{_≡_, refl, sym, ap}
+use mathlib.Core.Path.{_≡_, refl, sym, ap, _∙_}
 use mathlib.Core.Logic.{_≢_}
-use mathlib.Core.Bool.{true, false}
+use mathlib.Core.Bool.{Bool, true, false, cond}
 use mathlib.Core.List.{List, []}
-use borrow.Author.Tests.{le-leb, lt-leb, ne-eqb}
-use lib.Dec.{lit≤}
+use native.Mathlib.Omega.{arith}
+use borrow.Author.Tests.{le-leb, lt-leb, eqb-true, eq-eqb, ne-eqb}
+use lib.Dec.{eqb, lit≤}
 use lib.ListN.{length, take}
 use Rattle.format.specs.Fields.{sizeOf}
 use Rattle.format.specs.Refusals.{refusal}
-use Rattle.record.specs.Calls.{refused}
+use Rattle.record.specs.Calls.{refused, accepted, orZero}
 use Rattle.format.specs.Meaning.{tableOf}
 use Rattle.format.proofs.Acceptance.{else-first, none-both}
 use Rattle.format.proofs.Heading.{none-first, not-no}
 use Rattle.standing.specs.Sides.{Given, isSide, sideOf}
+use Rattle.proposals.specs.declared.answers.Compared.{Compared}
 use Rattle.proposals.specs.Refusals.{isOrder, comparing}
-use Rattle.proposals.specs.Calls.{countWith, betterPart, Betters, BetterChecks}
+use Rattle.proposals.specs.Calls.{countWith, firstBetter, betterPart, betterWhich, Betters, Compares, BetterChecks}
 use Rattle.standing.proofs.AsItStands.{given-size}
 use Rattle.proposals.proofs.Proposed.{order-within}
 
@@ -83,16 +85,52 @@ module _ (s : List ℕ) (side : ℕ) (first second : List ℕ) where
   pub better-checked : {k : ℕ} → k ≡ comparing s side first second → BetterChecks s side first second (record { number = k })
   better-checked e = record { answers = ap refused e }
 
-  pub better-refused : {k : ℕ} → k ≡ comparing s side first second → k ≢ 0 → Betters s side first second []
-  unfolding betterPart
-  better-refused {k} e h = record { answers = rw (← e, ne-eqb k 0 h) refl }
+  pub compare-refused : {k : ℕ} → k ≡ comparing s side first second → k ≢ 0 →
+      Compares s side first second (record { refusal = refused k; which = 0; length = 0 })
+  unfolding betterWhich
+  compare-refused {k} e h = record { answers = rw (← e, ne-eqb k 0 h) refl }
 
   module _ {n a b : ℕ} (none : comparing s side first second ≡ 0) (e : n ≡ sizeOf s)
       (p : a ≡ countWith s (sideOf side) first) (q : b ≡ countWith s (sideOf side) second) where
-    pub better-first : a ≤ b → Betters s side first second (take n first)
-    unfolding betterPart
-    better-first h = record { answers = rw (none, ← p, ← q, le-leb a b h, e) refl }
+    pub compare-first : a ≤ b → Compares s side first second (record { refusal = refused 0; which = 1; length = n })
+    unfolding betterWhich
+    compare-first h = record { answers = rw (none, ← p, ← q, le-leb a b h, e) refl }
 
-    pub better-second : b < a → Betters s side first second (take n second)
-    unfolding betterPart
-    better-second h = record { answers = rw (none, ← p, ← q, lt-leb a b h, e) refl }
+    pub compare-second : b < a → Compares s side first second (record { refusal = refused 0; which = 2; length = n })
+    unfolding betterWhich
+    compare-second h = record { answers = rw (none, ← p, ← q, lt-leb a b h, e) refl }
+
+  -- from the answer in numbers to the part: so many entries of that order, none of the first where anything is refused
+  module _ {c : Compared} (h : Compares s side first second c) where
+    compared-length : c .length ≡ orZero (comparing s side first second) (sizeOf s)
+    compared-length = ap (λ r. r .length) (h .answers)
+
+    compared-which : c .which ≡ betterWhich s side first second
+    compared-which = ap (λ r. r .which) (h .answers)
+
+    abbrev Part : List ℕ → Type 0
+    Part xs = (c .length ≤ length xs) × Betters s side first second (take (c .length) xs)
+
+    compared-part : Part (cond (eqb (c .which) 2) second first)
+    unfolding betterWhich betterPart
+    compared-part = go (accepted (comparing s side first second)) refl (firstBetter s side first second) refl
+      where
+        go : (b : Bool) → accepted (comparing s side first second) ≡ b → (d : Bool) → firstBetter s side first second ≡ d →
+            Part (cond (eqb (c .which) 2) second first)
+        go false e d f =
+            let n : c .length ≡ 0 = compared-length ∙ rw e refl in
+            (omega arith, record { answers = rw (n, e) refl })
+        go true e true f =
+            let n : c .length ≡ sizeOf s = compared-length ∙ rw e refl in
+            let w : c .which ≡ 1 = compared-which ∙ rw (e, f) refl in
+            rw (w, n) (ready (eqb-true _ _ e) refl .long-first, record { answers = rw (e, f) refl })
+        go true e false f =
+            let n : c .length ≡ sizeOf s = compared-length ∙ rw e refl in
+            let w : c .which ≡ 2 = compared-which ∙ rw (e, f) refl in
+            rw (w, n) (ready (eqb-true _ _ e) refl .long-second, record { answers = rw (e, f) refl })
+
+    pub better-second : c .which ≡ 2 → Part second
+    better-second e = rw (eq-eqb (c .which) 2 e) at compared-part
+
+    pub better-first : c .which ≢ 2 → Part first
+    better-first e = rw (ne-eqb (c .which) 2 e) at compared-part

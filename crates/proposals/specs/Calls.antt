@@ -1,7 +1,7 @@
--- What better of two and its check call answer, for every input.
+-- What better of two, as a part and in numbers, and its check call answer, for every input.
 use Prim.Native.Nat.{ℕ}
 use mathlib.Core.Path.{_≡_}
-use mathlib.Core.Bool.{cond}
+use mathlib.Core.Bool.{Bool, cond}
 use mathlib.Core.List.{List, []}
 use lib.Dec.{leb}
 use lib.ListN.{take}
@@ -9,8 +9,9 @@ use Rattle.tanglegram.specs.Crossings.{count}
 use Rattle.tanglegram.specs.Run.{Side, left, right}
 use Rattle.format.specs.declared.refusal.Refusal.{Refusal}
 use Rattle.format.specs.Fields.{sizeOf, parts}
-use Rattle.record.specs.Calls.{refused, accepted}
+use Rattle.record.specs.Calls.{refused, accepted, orZero}
 use Rattle.standing.specs.Sides.{sideOf}
+use Rattle.proposals.specs.declared.answers.Compared.{Compared}
 use Rattle.proposals.specs.Refusals.{comparing}
 use Rattle.standing.specs.Shown.{shownOrder}
 
@@ -21,15 +22,32 @@ abbrev pub countWith : List ℕ → Side → List ℕ → ℕ
 countWith s left xs = count (sizeOf s) (parts s .links) (take (sizeOf s) xs) (shownOrder s right)
 countWith s right xs = count (sizeOf s) (parts s .links) (shownOrder s left) (take (sizeOf s) xs)
 
+-- The first order crosses at most as much as the second.
+abbrev pub firstBetter : List ℕ → ℕ → List ℕ → List ℕ → Bool
+firstBetter s side first second = leb (countWith s (sideOf side) first) (countWith s (sideOf side) second)
+
 -- The first n entries of the order that crosses less, of the first on a tie; none where anything is refused.
 unfoldable pub betterPart : List ℕ → ℕ → List ℕ → List ℕ → List ℕ
 unfolding comparing
 betterPart s side first second =
-    let fewer = leb (countWith s (sideOf side) first) (countWith s (sideOf side) second) in
-    cond (accepted (comparing s side first second)) (take (sizeOf s) (cond fewer first second)) []
+    cond (accepted (comparing s side first second))
+    (take (sizeOf s) (cond (firstBetter s side first second) first second))
+    []
+
+-- The same in numbers: 1 for the first order, 2 for the second; 0 where anything is refused.
+unfoldable pub betterWhich : List ℕ → ℕ → List ℕ → List ℕ → ℕ
+unfolding comparing
+betterWhich s side first second = orZero (comparing s side first second) (cond (firstBetter s side first second) 1 2)
 
 pub record Betters (s : List ℕ) (side : ℕ) (first second part : List ℕ) : Type 0 where
   pub answers : part ≡ betterPart s side first second
+
+pub record Compares (s : List ℕ) (side : ℕ) (first second : List ℕ) (answer : Compared) : Type 0 where
+  pub answers : answer ≡ record {
+    refusal = refused (comparing s side first second);
+    which = betterWhich s side first second;
+    length = orZero (comparing s side first second) (sizeOf s);
+  }
 
 pub record BetterChecks (s : List ℕ) (side : ℕ) (first second : List ℕ) (answer : Refusal) : Type 0 where
   pub answers : answer ≡ refused (comparing s side first second)

@@ -2,9 +2,10 @@
 ghost use mathlib.Core.Bool.{true};
 ghost use mathlib.Core.Path.{_≡_};
 ghost use Rattle.format.specs.Meaning.{tableOf};
-ghost use Rattle.proposals.specs.Calls.{BetterChecks, Betters, countWith};
+ghost use Rattle.proposals.specs.Calls.{BetterChecks, Betters, Compares, countWith};
 ghost use Rattle.proposals.specs.Refusals.{comparing, isOrder};
 ghost use Rattle.standing.specs.Sides.{Given, isSide, sideOf};
+use crate::answers::Compared;
 use format::copying::copied;
 use format::refusal::ORDER;
 use format::refusal::Refusal;
@@ -73,19 +74,43 @@ pub fn better_check(s: &[u8], side: u16, first: &[u16], second: &[u16]) -> Refus
     }
 }
 
+// Which of two lent orders crosses less, the first one on a tie, and how many of its entries count; or the refusal.
+pub fn compare(s: &[u8], side: u16, first: &[u16], second: &[u16]) -> Compared
+    ensures { λ r. ⌜ Compares (now (s .entry)) side (now (first .entry)) (now (second .entry)) r ⌝ }
+{
+    let k = comparing_number(s, side, first, second);
+    if k != 0 {
+        return Compared {
+            refusal: Refusal { number: k },
+            which: 0,
+            length: 0,
+        };
+    }
+    let n = record::size_of(s);
+    let a = count_with(s, n, side, first);
+    let b = count_with(s, n, side, second);
+    if b < a {
+        return Compared {
+            refusal: Refusal { number: 0 },
+            which: 2,
+            length: n,
+        };
+    }
+    Compared {
+        refusal: Refusal { number: 0 },
+        which: 1,
+        length: n,
+    }
+}
+
 // The first n entries of the lent order that crosses less, of the first one on a tie; an empty part of the first where
 // anything is refused.
 pub fn better<'a>(s: &[u8], side: u16, first: &'a [u16], second: &'a [u16]) -> &'a [u16]
     ensures { λ r. ⌜ Betters (now (s .entry)) side (now (first .entry)) (now (second .entry)) (now r) ⌝ }
 {
-    if comparing_number(s, side, first, second) != 0 {
-        return &first[..0];
-    }
-    let n = record::size_of(s);
-    let k = n as usize;
-    let a = count_with(s, n, side, first);
-    let b = count_with(s, n, side, second);
-    if b < a {
+    let compared = compare(s, side, first, second);
+    let k = compared.length as usize;
+    if compared.which == 2 {
         return &second[..k];
     }
     &first[..k]

@@ -1,0 +1,2 @@
+pub mod Widened
+pub mod Outcomes

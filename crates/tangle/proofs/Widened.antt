@@ -1,0 +1,148 @@
+-- A wide number and the narrow one in its place: a call comes to the same with both, since beyond the limit it refuses both alike.
+use Prim.Native.Nat.{ℕ, _<_, _≤_}
+use mathlib.Core.Path.{_≡_, refl, sym, ap, _∙_, subst}
+use mathlib.Core.Logic.{_≢_}
+use mathlib.Core.Bool.{Bool, true, false}
+use mathlib.Core.List.{List}
+use native.Mathlib.Omega.{arith}
+use borrow.Author.Tests.{ne-eqb, lt-ltb, ltb-true, ltb-false}
+use lib.Dec.{ltb}
+use Rattle.format.specs.declared.refusal.Refusal.{Refusal}
+use Rattle.format.specs.Fields.{Parts, given, packed}
+use Rattle.format.specs.Refusals.{isHold, noSize, holding}
+use Rattle.record.specs.Calls.{refused, SetsHold}
+use Rattle.record.proofs.Outcomes.{lent-refused}
+use Rattle.packing.specs.Refusals.{shape, packing}
+use Rattle.packing.specs.Calls.{Packs}
+use Rattle.standing.specs.Sides.{isSide}
+use Rattle.views.specs.Calls.{Orders}
+use Rattle.views.proofs.Outcomes.{ordering-13}
+use Rattle.table.specs.declared.answers.Freed.{Freed}
+use Rattle.table.specs.Calls.{Frees}
+use Rattle.table.proofs.Turns.{freeing-13}
+use Rattle.proposals.specs.declared.answers.Compared.{Compared}
+use Rattle.proposals.specs.Calls.{betterWhich, Compares, BetterChecks}
+use Rattle.proposals.proofs.Compared.{comparing-13}
+use Rattle.tangle.specs.Narrowed.{Narrowed}
+
+-- What holds of the narrow number holds of the wide one, if beyond the limit it follows from what holds of 0.
+pub widened : {limit x y : ℕ} (P : ℕ → Type 0) → Narrowed limit x y → (limit ≤ x → P 0 → P x) → P y → P x
+widened {limit} {x} P w far p = go (ltb x limit) refl
+  where
+    go : (b : Bool) → ltb x limit ≡ b → P x
+    go true e = subst P (w .below (ltb-true x limit e)) p
+    go false e = let h = ltb-false x limit e in far h (subst P (w .beyond h) p)
+
+-- ---- sides
+
+no-side : (x : ℕ) → 65536 ≤ x → isSide x ≡ false
+unfolding isSide
+no-side x h = rw (ne-eqb x 1 (λ e. omega arith), ne-eqb x 2 (λ e. omega arith)) refl
+
+zero-no-side : isSide 0 ≡ false
+unfolding isSide
+zero-no-side = refl
+
+module _ {side k : ℕ} (w : Narrowed 65536 side k) where
+  by-side : (P : ℕ → Type 0) → (isSide side ≡ false → P 0 → P side) → P k → P side
+  by-side P alike = widened P w (λ h. alike (no-side side h))
+
+  pub order-wide : {s out out′ : List ℕ} {a : Refusal} → Orders s k out a out′ → Orders s side out a out′
+  order-wide {s} {out} {out′} {a} = by-side (λ x. Orders s x out a out′) (λ no p.
+      let z = ordering-13 s 0 out zero-no-side in
+      let e = ordering-13 s side out no in
+      record { answers = rw (← e) (rw (← z) at (p .answers)); leaves = rw (← e) (rw (← z) at (p .leaves)) })
+
+  pub free-wide : {s s′ : List ℕ} {a : Freed} → Frees s k a s′ → Frees s side a s′
+  free-wide {s} {s′} {a} = by-side (λ x. Frees s x a s′) (λ no p.
+      let z = freeing-13 s 0 zero-no-side in
+      let e = freeing-13 s side no in
+      record { answers = rw (← e) (rw (← z) at (p .answers)); leaves = rw (← e) (rw (← z) at (p .leaves)) })
+
+  pub compare-wide : {s first second : List ℕ} {a : Compared} → Compares s k first second a → Compares s side first second a
+  unfolding betterWhich
+  compare-wide {s} {first} {second} {a} = by-side (λ x. Compares s x first second a) (λ no p.
+      let z = comparing-13 s 0 first second zero-no-side in
+      let e = comparing-13 s side first second no in
+      record { answers = rw (← e) (rw (← z) at (p .answers)) })
+
+  pub better-check-wide : {s first second : List ℕ} {a : Refusal} →
+      BetterChecks s k first second a → BetterChecks s side first second a
+  better-check-wide {s} {first} {second} {a} = by-side (λ x. BetterChecks s x first second a) (λ no p.
+      let z = comparing-13 s 0 first second zero-no-side in
+      let e = comparing-13 s side first second no in
+      record { answers = p .answers ∙ ap refused (sym z ∙ e) })
+
+-- ---- hold letters
+
+no-letter : (x : ℕ) → 256 ≤ x → isHold x ≡ false
+unfolding isHold
+no-letter x h =
+    rw (
+      ne-eqb x 78 (λ e. omega arith),
+      ne-eqb x 76 (λ e. omega arith),
+      ne-eqb x 82 (λ e. omega arith),
+      ne-eqb x 66 (λ e. omega arith),
+    ) refl
+
+zero-no-letter : isHold 0 ≡ false
+unfolding isHold
+zero-no-letter = refl
+
+holding-4 : (s : List ℕ) (letter : ℕ) → isHold letter ≡ false → 4 ≡ holding s letter
+unfolding holding
+holding-4 s letter h = rw h refl
+
+pub hold-wide : {s s′ : List ℕ} {letter k : ℕ} {a : Refusal} → Narrowed 256 letter k → SetsHold s k a s′ → SetsHold s letter a s′
+hold-wide {s} {s′} {letter} {k} {a} w = widened (λ x. SetsHold s x a s′) w (λ h p.
+    let z = holding-4 s 0 zero-no-letter in
+    let e = holding-4 s letter (no-letter letter h) in
+    record { answers = rw (← e) (rw (← z) at (p .answers)); leaves = rw (← e) (rw (← z) at (p .leaves)) })
+
+-- ---- packing: its letter and n
+
+no-size : (x : ℕ) → 65536 ≤ x → noSize x ≡ true
+unfolding noSize
+no-size x h = rw (ne-eqb x 0 (λ e. omega arith), lt-ltb 512 x (omega arith)) refl
+
+zero-no-size : noSize 0 ≡ true
+unfolding noSize
+zero-no-size = refl
+
+-- parts that are refused alike
+packs-alike : {P Q : Parts} {out out′ : List ℕ} {a : Refusal} {c : ℕ} → c ≢ 0 → c ≡ packing P out → c ≡ packing Q out →
+    Packs P out a out′ → Packs Q out a out′
+packs-alike {P} {Q} {out} {c = c} some z e p = record {
+  answers = p .answers ∙ ap refused (sym z ∙ e);
+  leaves =
+      (rw (← z) at (p .leaves)) ∙ sym (lent-refused c (packed P) out some) ∙ rw (← e) (lent-refused c (packed Q) out some);
+}
+
+module _ (left right links left-layout right-layout out : List ℕ) where
+  abbrev parts : ℕ → ℕ → Parts
+  parts hold n = given hold n left right links left-layout right-layout
+
+  pack-4 : (hold n : ℕ) → isHold hold ≡ false → 4 ≡ packing (parts hold n) out
+  unfolding packing shape
+  pack-4 hold n h = rw h refl
+
+  pack-5 : (hold n : ℕ) → isHold hold ≡ true → noSize n ≡ true → 5 ≡ packing (parts hold n) out
+  unfolding packing shape
+  pack-5 hold n h m = rw (h, m) refl
+
+  module _ {out′ : List ℕ} {a : Refusal} where
+    letter-wide : {hold n k : ℕ} → Narrowed 256 hold k → Packs (parts k n) out a out′ → Packs (parts hold n) out a out′
+    letter-wide {hold} {n} w =
+        widened (λ x. Packs (parts x n) out a out′) w
+        (λ h. packs-alike (λ e. omega arith) (pack-4 0 n zero-no-letter) (pack-4 hold n (no-letter hold h)))
+
+    size-wide : {hold n k : ℕ} → Narrowed 65536 n k → Packs (parts hold k) out a out′ → Packs (parts hold n) out a out′
+    size-wide {hold} {n} w = widened (λ x. Packs (parts hold x) out a out′) w (λ h. go h (isHold hold) refl)
+      where
+        go : 65536 ≤ n → (b : Bool) → isHold hold ≡ b → Packs (parts hold 0) out a out′ → Packs (parts hold n) out a out′
+        go h true b = packs-alike (λ e. omega arith) (pack-5 hold 0 b zero-no-size) (pack-5 hold n b (no-size n h))
+        go h false b = packs-alike (λ e. omega arith) (pack-4 hold 0 b) (pack-4 hold n b)
+
+    pub pack-wide : {hold letter n size : ℕ} → Narrowed 256 hold letter → Narrowed 65536 n size →
+        Packs (parts letter size) out a out′ → Packs (parts hold n) out a out′
+    pack-wide u v p = letter-wide u (size-wide v p)

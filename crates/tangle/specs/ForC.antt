@@ -1,0 +1,119 @@
+-- What the calls for C answer and leave, for every input: what the call itself answers, field by field as the number that C has, and
+-- what it leaves. Sides, letters and n are the numbers that C hands over, of 32 bits.
+use Prim.Native.Nat.{ℕ}
+use mathlib.Core.Path.{_≡_}
+use mathlib.Core.Bool.{false}
+use mathlib.Core.List.{List}
+use lib.IntN.{pos}
+use lib.Ieee.{fin}
+use Rattle.format.specs.declared.refusal.Refusal.{Refusal}
+use Rattle.format.specs.Fields.{Parts}
+use Rattle.record.specs.Calls.{Checks, SetsHold}
+use Rattle.unpacking.specs.declared.unpacking.Unpacked.{Unpacked}
+use Rattle.unpacking.specs.Calls.{Unpacks}
+use Rattle.packing.specs.Calls.{Packs}
+use Rattle.views.specs.declared.answers.Counted.{Counted}
+use Rattle.views.specs.declared.answers.Entangled.{Entangled}
+use Rattle.views.specs.declared.answers.Entangled.the-variants.{Ratio, NoRatio, Refused}
+use Rattle.views.specs.Calls.{Orders, Counts, Entangles}
+use Rattle.table.specs.declared.answers.Freed.{Freed}
+use Rattle.table.specs.declared.answers.Ran.{Ran}
+use Rattle.table.specs.Calls.{Frees, Runs}
+use Rattle.hands.specs.Refusals.{Hand}
+use Rattle.hands.specs.Calls.{Hands}
+use Rattle.proposals.specs.declared.answers.Compared.{Compared}
+use Rattle.proposals.specs.Calls.{Compares, BetterChecks}
+use Rattle.tangle.specs.declared.answers.TangleRefusal.{TangleRefusal}
+use Rattle.tangle.specs.declared.answers.TangleCount.{TangleCount}
+use Rattle.tangle.specs.declared.answers.TangleEntanglement.{TangleEntanglement}
+use Rattle.tangle.specs.declared.answers.TangleFree.{TangleFree}
+use Rattle.tangle.specs.declared.answers.TangleRun.{TangleRun}
+use Rattle.tangle.specs.declared.answers.TangleBetter.{TangleBetter}
+use Rattle.tangle.specs.declared.answers.TangleUnpack.{TangleUnpack}
+
+-- The answer is a form of one that a call may give.
+pub record Gives {A B : Type 0} (call : A → Type 0) (form : A → B) (answer : B) : Type 0 where
+  pub given : A
+  pub called : call given
+  pub answers : answer ≡ form given
+
+-- ---- check, order, hold, hands, better_check, pack: the refusal alone
+
+abbrev pub refusalForC : Refusal → TangleRefusal
+refusalForC a = record { refusal = a .number }
+
+abbrev pub ChecksForC : List ℕ → TangleRefusal → Type 0
+ChecksForC s answer = Gives (Checks s) refusalForC answer
+
+abbrev pub OrdersForC : List ℕ → ℕ → List ℕ → TangleRefusal → List ℕ → Type 0
+OrdersForC s side out answer out′ = Gives (λ a. Orders s side out a out′) refusalForC answer
+
+abbrev pub SetsHoldForC : List ℕ → ℕ → TangleRefusal → List ℕ → Type 0
+SetsHoldForC s letter answer s′ = Gives (λ a. SetsHold s letter a s′) refusalForC answer
+
+abbrev pub HandsForC : List ℕ → List Hand → TangleRefusal → List ℕ → Type 0
+HandsForC s hands answer s′ = Gives (λ a. Hands s hands a s′) refusalForC answer
+
+abbrev pub BetterChecksForC : List ℕ → ℕ → List ℕ → List ℕ → TangleRefusal → Type 0
+BetterChecksForC s side first second answer = Gives (BetterChecks s side first second) refusalForC answer
+
+abbrev pub PacksForC : Parts → List ℕ → TangleRefusal → List ℕ → Type 0
+PacksForC P out answer out′ = Gives (λ a. Packs P out a out′) refusalForC answer
+
+-- ---- count and pairs
+
+abbrev pub countForC : Counted → TangleCount
+countForC a = record { refusal = a .refusal .number; count = a .count }
+
+abbrev pub CountsForC : List ℕ → TangleCount → Type 0
+CountsForC s answer = Gives (Counts s) countForC answer
+
+-- ---- entanglement
+
+-- No ratio: the number, and zero for every other; as a ratio, +0.
+abbrev pub noRatio : ℕ → TangleEntanglement
+noRatio k = record { refusal = k; displacement = 0; worst = 0; «has_ratio» = 0; ratio = fin false 0 (pos 0) }
+
+abbrev pub entanglementForC : Entangled → TangleEntanglement
+entanglementForC (Ratio d w x) = record { refusal = 0; displacement = d; worst = w; «has_ratio» = 1; ratio = x }
+entanglementForC NoRatio = noRatio 0
+entanglementForC (Refused r) = noRatio (r .number)
+
+abbrev pub EntanglesForC : List ℕ → TangleEntanglement → Type 0
+EntanglesForC s answer = Gives (Entangles s) entanglementForC answer
+
+-- ---- free
+
+abbrev pub freeForC : Freed → TangleFree
+freeForC a = record { refusal = a .refusal .number; before = a .before; after = a .after }
+
+abbrev pub FreesForC : List ℕ → ℕ → TangleFree → List ℕ → Type 0
+FreesForC s side answer s′ = Gives (λ a. Frees s side a s′) freeForC answer
+
+-- ---- run
+
+abbrev pub runForC : Ran → TangleRun
+runForC a = record { refusal = a .refusal .number; first = a .first; last = a .last; turns = a .turns; settled = a .settled }
+
+abbrev pub RunsForC : List ℕ → ℕ → TangleRun → List ℕ → Type 0
+RunsForC s allowance answer s′ = Gives (λ a. Runs s allowance a s′) runForC answer
+
+-- ---- better
+
+abbrev pub betterForC : Compared → TangleBetter
+betterForC a = record { refusal = a .refusal .number; which = a .which; length = a .length }
+
+abbrev pub ComparesForC : List ℕ → ℕ → List ℕ → List ℕ → TangleBetter → Type 0
+ComparesForC s side first second answer = Gives (Compares s side first second) betterForC answer
+
+-- ---- unpack
+
+abbrev pub unpackForC : Unpacked → TangleUnpack
+unpackForC a = record { refusal = a .refusal .number; hold = a .hold; n = a .n }
+
+abbrev pub UnpacksForC : List ℕ → List ℕ → List ℕ → List ℕ → List ℕ → List ℕ → TangleUnpack →
+    List ℕ → List ℕ → List ℕ → List ℕ → List ℕ → Type 0
+UnpacksForC s left right links left-layout right-layout answer left′ right′ links′ left-layout′ right-layout′ =
+    Gives
+    (λ a. Unpacks s left right links left-layout right-layout a left′ right′ links′ left-layout′ right-layout′)
+    unpackForC answer

@@ -1,0 +1,3 @@
+pub mod Narrowed
+pub mod ForC
+pub mod Outcomes

@@ -1,0 +1,35 @@
+// The calls for C on two proposed orders: better of the two, told in numbers since C can't be handed a part, and its
+// check. Neither writes anything.
+ghost use Rattle.tangle.specs.ForC.{BetterChecksForC, ComparesForC};
+use crate::answers::TangleBetter;
+use crate::answers::TangleRefusal;
+use crate::narrowing::in_16_bits;
+
+// Which of two orders proposed for a side crosses less, the first on a tie, and n; or the refusal.
+#[no_mangle]
+pub extern "C" fn tangle_better(s: &[u8], side: u32, first: &[u16], second: &[u16]) -> TangleBetter
+    ensures { λ r. ⌜ ComparesForC (now (s .entry)) side (now (first .entry)) (now (second .entry)) r ⌝ }
+{
+    let compared = proposals::compare(s, in_16_bits(side), first, second);
+    TangleBetter {
+        refusal: compared.refusal.number as u32,
+        which: compared.which as u32,
+        length: compared.length as u32,
+    }
+}
+
+// The refusal that better of the two answers, and nothing counted.
+#[no_mangle]
+pub extern "C" fn tangle_better_check(
+    s: &[u8],
+    side: u32,
+    first: &[u16],
+    second: &[u16],
+) -> TangleRefusal
+    ensures { λ r. ⌜ BetterChecksForC (now (s .entry)) side (now (first .entry)) (now (second .entry)) r ⌝ }
+{
+    let refusal = proposals::better_check(s, in_16_bits(side), first, second);
+    TangleRefusal {
+        refusal: refusal.number as u32,
+    }
+}

@@ -1,2 +1,0 @@
-pub mod ForC
-pub mod Outcomes
