@@ -13,26 +13,25 @@ use lib.Seq.{sets, length-take-le}
 use Rattle.tanglegram.specs.Lists.{Each, range}
 use Rattle.tanglegram.specs.Tree.{rows, leaves}
 use Rattle.tanglegram.specs.Order.{order, reading, Compatible}
-use Rattle.tanglegram.specs.Crossings.{pairs, inverted, count}
+use Rattle.tanglegram.specs.Crossings.{count}
 use Rattle.tanglegram.specs.Run.{Side, left, right}
-use Rattle.tanglegram.specs.Table.{orderOf}
 use Rattle.tanglegram.proofs.Bools.{and-both}
 use Rattle.tanglegram.proofs.Lists.{all-distinct, each-perm, range-each}
 use Rattle.tanglegram.proofs.Order.{order-compatible}
 use Rattle.tanglegram.proofs.Compatible.{compatible-order}
 use Rattle.trees.specs.Rows.{size, treeOf}
 use Rattle.matching.specs.Match.{Tells}
-use Rattle.leaf_arrays.specs.Arrays.{at, Holds, OneToN}
-use Rattle.crossings.proofs.Count.{count-seen-left, count-seen-right}
+use Rattle.leaf_arrays.specs.Arrays.{OneToN}
 use Rattle.format.specs.Fields.{sizeOf, parts}
 use Rattle.format.specs.Refusals.{refusal}
-use Rattle.format.specs.Meaning.{tableOf, layoutsOf}
+use Rattle.format.specs.Meaning.{tableOf}
 use Rattle.format.proofs.Meaning.{accepted-fair, accepted-fits}
 use Rattle.format.proofs.Tables.{take-sets}
-use Rattle.standing.specs.Sides.{Given, farPlace}
+use Rattle.standing.specs.Shown.{shownOrder}
+use Rattle.standing.specs.Sides.{Given}
 use Rattle.proposals.specs.Refusals.{same, isOrder}
 use Rattle.proposals.specs.Calls.{countWith}
-use Rattle.standing.proofs.AsItStands.{given, side-leaves, linked-once, length-part}
+use Rattle.standing.proofs.AsItStands.{given, side-leaves, length-part}
 
 -- ---- tests
 
@@ -85,7 +84,7 @@ module _ (s : List ℕ) (n : ℕ) (g : Given s n) (side : Side) (xs : List ℕ) 
   -- ---- a copy in an array
 
   module _ (found A : List ℕ) (full : length found ≡ 512) (long : n ≤ length xs) (e : A ≡ sets found 0 (take n xs)) where
-    copy-taken : take n A ≡ take n xs
+    pub copy-taken : take n A ≡ take n xs
     copy-taken =
         let z = g .sized in ap (take n) e ∙ take-sets found (take n xs) n (length-take-le n xs long) (omega arith)
 
@@ -113,24 +112,16 @@ module _ (s : List ℕ) (n : ℕ) (g : Given s n) (side : Side) (xs : List ℕ) 
       pub copy-one : OneToN n A
       copy-one = rw (copy-taken found A full order-within e) proposed-perm
 
--- by seen places along it, whichever side it is proposed for
-pub counted-with : (s : List ℕ) (n : ℕ) (g : Given s n) (side : Side) (xs : List ℕ) → isOrder n (tableOf s .tree side) xs ≡ true →
-    (found A : List ℕ) → length found ≡ 512 → A ≡ sets found 0 (take n xs) → (far : List ℕ) → Holds n far (farPlace s side) →
-    pairs (inverted (at far)) (take n A) ≡ countWith s side xs
-counted-with s n g side xs good found A full e far h =
-    ap (pairs (inverted (at far))) (copy-taken s n g side xs found A full (order-within s n g side xs good) e)
-    ∙ go side (proposed-perm s n g side xs good) h
-  where
-    go : (x : Side) → List·Permᴰ (take n xs) (range 1 n) → Holds n far (farPlace s x) →
-        pairs (inverted (at far)) (take n xs) ≡ countWith s x xs
-    go left p h =
-        let τ = orderOf (tableOf s) (layoutsOf s) right in
-        count-seen-left n (parts s .links) τ far h (take n xs) p
-        ∙ ap (λ m. count m (parts s .links) (take m xs) τ) (sym (g .sized .says))
-    go right p h =
-        let σ = orderOf (tableOf s) (layoutsOf s) left in
-        count-seen-right n (parts s .links) σ far (linked-once s n g) h (take n xs) p
-        ∙ ap (λ m. count m (parts s .links) σ (take m xs)) (sym (g .sized .says))
+-- the count with it in a side's place
+module _ (s : List ℕ) (n : ℕ) (g : Given s n) (xs links A O : List ℕ) (its-links : take n links ≡ parts s .links)
+    (copy : take n A ≡ take n xs) where
+  pub counted-left : take n O ≡ shownOrder s right → count n (take n links) (take n A) (take n O) ≡ countWith s left xs
+  counted-left o =
+      rw (its-links, copy, o) (ap (λ m. count m (parts s .links) (take m xs) (shownOrder s right)) (sym (g .sized .says)))
+
+  pub counted-right : take n O ≡ shownOrder s left → count n (take n links) (take n O) (take n A) ≡ countWith s right xs
+  counted-right o =
+      rw (its-links, copy, o) (ap (λ m. count m (parts s .links) (shownOrder s left) (take m xs)) (sym (g .sized .says)))
 
 -- ---- for any accepted record
 

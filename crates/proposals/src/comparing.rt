@@ -10,9 +10,10 @@ use format::copying::copied;
 use format::refusal::ORDER;
 use format::refusal::Refusal;
 use format::refusal::SIDE;
-use standing::far_places;
+use linked_orders::crossings_seen;
 use standing::is_side;
 use standing::rows_at;
+use standing::side_order;
 
 // Whether the first n entries of a lent order are an order of a side of an accepted record.
 fn is_order(s: &[u8], n: u16, side: u16, xs: &[u16]) -> bool
@@ -39,9 +40,14 @@ fn count_with(s: &[u8], n: u16, side: u16, xs: &[u16]) -> u32
     let k = n as usize;
     let mut order = [0u16; 512];
     copied(&xs[..k], &mut order);
-    let mut far = [0u16; 512];
-    far_places(s, n, side, &mut far);
-    crossings::count_seen(&order, &far, k)
+    let mut other = [0u16; 512];
+    side_order(s, n, 3 - side, &mut other);
+    let mut links = [0u16; 512];
+    format::fill_links(s, 8 + 8 * (k - 1), n, &mut links);
+    if side == 1 {
+        return crossings_seen(&links, &order, &other, k);
+    }
+    crossings_seen(&links, &other, &order, k)
 }
 
 // The refusal of comparing two orders, or 0.

@@ -1,5 +1,5 @@
-use mathlib.Core.Path.{_∙_}
 -- `far_of_left`: the places in the order, and then those of the links' ends.
+use mathlib.Core.Path.{_∙_}
 use Rattle.leaf_arrays.proofs.Arrays.{one-to}
 use Rattle.linked_orders.proofs.FarEnds.{ends-left}
 use native.Mathlib.Omega.{arith}

@@ -1,5 +1,5 @@
-use mathlib.Core.Path.{refl}
 -- `run_apart`: the arrays hold the record's table, the turns are taken there, and the layouts go back.
+use mathlib.Core.Path.{refl}
 use Rattle.turns.proofs.SideFreed.{memory-now, run-then}
 use Rattle.table.proofs.Apart.{record-ran}
 use borrow.Author.Needs.{needs}
