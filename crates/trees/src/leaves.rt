@@ -32,20 +32,29 @@ pub fn count_leaves(tab: &[u16; 1023], many: &mut [u16; 1024])
     }
 }
 
-// Writes the leaves under object obj into out from place `at` on.
+// Writes the leaves under object obj into out from place `at` on: the leaf itself, or those under its two children.
 fn walk(tab: &[u16; 1023], many: &[u16; 1024], obj: u16, out: &mut [u16; 512], at: usize)
     requires { ⌜ Good (now tab) × LeafCounts (now tab) (now many) ⌝ }
     requires { ⌜ (1 ≤ obj) × (obj < 2 * size (now tab)) ⌝ }
     requires { ⌜ at + length (leaves (objectOf (now tab) obj)) ≤ 512 ⌝ }
     ensures { λ _. ⌜ now (out .exit) ≡ sets (now (out .entry)) at (leaves (objectOf (now (tab .entry)) obj)) ⌝ }
 {
-    let n = tab[1022] as usize;
-    let o = obj as usize;
-    if o <= n {
+    if obj <= tab[1022] {
         out[at] = obj;
         return;
     }
-    let i = o - n - 1;
+    walk_children(tab, many, obj, out, at);
+}
+
+// The same of an object that is no leaf: walks both children, the one with fewer leaves first.
+fn walk_children(tab: &[u16; 1023], many: &[u16; 1024], obj: u16, out: &mut [u16; 512], at: usize)
+    requires { ⌜ Good (now tab) × LeafCounts (now tab) (now many) ⌝ }
+    requires { ⌜ (size (now tab) < obj) × (obj < 2 * size (now tab)) ⌝ }
+    requires { ⌜ at + length (leaves (objectOf (now tab) obj)) ≤ 512 ⌝ }
+    ensures { λ _. ⌜ now (out .exit) ≡ sets (now (out .entry)) at (leaves (objectOf (now (tab .entry)) obj)) ⌝ }
+{
+    let n = tab[1022] as usize;
+    let i = obj as usize - n - 1;
     let a = tab[2 * i];
     let b = tab[2 * i + 1];
     let first = many[a as usize] as usize;
