@@ -5,7 +5,7 @@ use mathlib.Core.Path.{_≡_, sym, ap, _∙_}
 use mathlib.Core.List.{List, [], _∷_, _++_}
 use native.Mathlib.Numerals.{sub-one}
 use native.Mathlib.Omega.{arith}
-use lib.ListN.{length, getD, drop, length-append}
+use lib.ListN.{length, getD, set, drop, length-append}
 use lib.Seq.{sets, sets-eq}
 use Rattle.tanglegram.specs.Tree.{leaves}
 use Rattle.tanglegram.specs.Order.{order}
@@ -87,3 +87,15 @@ module _ (T : List ℕ) (good : Good T) where
     sets-fork-back out at =
         let A = leaves (objectOf T upperOf) in
         sym (sets-comm A (leaves (objectOf T lowerOf)) out at (at + length A) (omega arith)) ∙ sets-fork out at
+
+    -- where the upper entry is a leaf: the leaf written, and then the lower one's leaves
+    pub sets-upper-leaf : upperOf ≤ size T → (out : List ℕ) (at : ℕ) →
+        sets (set out at upperOf) (at + 1) (leaves (objectOf T lowerOf)) ≡ sets out at (leaves (objectOf T k))
+    sets-upper-leaf h out at =
+        rw (leaves-leaf upperOf h) at (sets-fork out at)
+
+    -- where the lower entry is one: the leaf written after the room for the upper one's leaves, and then those
+    pub sets-lower-leaf : lowerOf ≤ size T → (out : List ℕ) (at : ℕ) →
+        sets (set out (at + length (leaves (objectOf T upperOf))) lowerOf) at (leaves (objectOf T upperOf))
+        ≡ sets out at (leaves (objectOf T k))
+    sets-lower-leaf h out at = rw (leaves-leaf lowerOf h) at (sets-fork-back out at)

@@ -32,34 +32,35 @@ pub fn count_leaves(tab: &[u16; 1023], many: &mut [u16; 1024])
     }
 }
 
-// Writes the leaves under object obj into out from place `at` on: the leaf itself, or those under its two children.
+// Writes the leaves under object obj into out from place `at` on: the leaf itself, or those under its two children. A
+// child that is a leaf is written in its place; of two others the one with fewer leaves is walked first.
 fn walk(tab: &[u16; 1023], many: &[u16; 1024], obj: u16, out: &mut [u16; 512], at: usize)
     requires { ⌜ Good (now tab) × LeafCounts (now tab) (now many) ⌝ }
     requires { ⌜ (1 ≤ obj) × (obj < 2 * size (now tab)) ⌝ }
     requires { ⌜ at + length (leaves (objectOf (now tab) obj)) ≤ 512 ⌝ }
     ensures { λ _. ⌜ now (out .exit) ≡ sets (now (out .entry)) at (leaves (objectOf (now (tab .entry)) obj)) ⌝ }
 {
-    if obj <= tab[1022] {
+    let n = tab[1022];
+    if obj <= n {
         out[at] = obj;
         return;
     }
-    walk_children(tab, many, obj, out, at);
-}
-
-// The same of an object that is no leaf: walks both children, the one with fewer leaves first.
-fn walk_children(tab: &[u16; 1023], many: &[u16; 1024], obj: u16, out: &mut [u16; 512], at: usize)
-    requires { ⌜ Good (now tab) × LeafCounts (now tab) (now many) ⌝ }
-    requires { ⌜ (size (now tab) < obj) × (obj < 2 * size (now tab)) ⌝ }
-    requires { ⌜ at + length (leaves (objectOf (now tab) obj)) ≤ 512 ⌝ }
-    ensures { λ _. ⌜ now (out .exit) ≡ sets (now (out .entry)) at (leaves (objectOf (now (tab .entry)) obj)) ⌝ }
-{
-    let n = tab[1022] as usize;
-    let i = obj as usize - n - 1;
+    let i = obj as usize - n as usize - 1;
     let a = tab[2 * i];
     let b = tab[2 * i + 1];
+    if a <= n {
+        out[at] = a;
+        walk(tab, many, b, out, at + 1);
+        return;
+    }
     let first = many[a as usize] as usize;
-    let second = many[b as usize] as usize;
     let mid = at + first;
+    if b <= n {
+        out[mid] = b;
+        walk(tab, many, a, out, at);
+        return;
+    }
+    let second = many[b as usize] as usize;
     if first <= second {
         walk(tab, many, a, out, at);
         walk(tab, many, b, out, mid);
