@@ -19,6 +19,7 @@ use Rattle.tanglegram.proofs.Freeing.{own-flip, freed-unique}
 use Rattle.tanglegram.proofs.Totals.{total-range}
 use Rattle.trees.specs.Rows.{upper, lower, size, objectOf, treeOf, Good}
 use Rattle.trees.specs.Exchange.{exchanged, Exchanges, Laid, givenTree}
+use Rattle.trees.proofs.LeafCounts.{counts-stay}
 use Rattle.trees.proofs.Laid.{laid-object, laid-back, exchanged-good, exchanged-size, turned-good, turned-given}
 use Rattle.freeing.specs.Row.{standing, turnedOver, turnsOver, gain, byteAfter, countAfter, fewest, sumTo, Frees, RowsFreed}
 
@@ -133,4 +134,5 @@ frees-freed w W lay W′ new before after good enough f =
         long = omega (arith, f .long);
         tree = turned-given W W′ lay new (gain w W lay) good (f .same-size) (f .rows) (f .bytes);
       };
+      counts = λ many c. counts-stay W W′ many (gain w W lay) good (f .same-size) (f .rows) c;
     }

@@ -7,6 +7,7 @@ use mathlib.Core.List.{List, [], _∷_, _++_, map, map-append, List·Permᴰ, Pe
 use native.Mathlib.Decide.{ℕ-discrete}
 use native.Mathlib.Nat.{mul-le-mul}
 use native.Mathlib.Omega.{arith}
+use borrow.Author.Tests.{le-leb}
 use lib.ListN.{length, getD, set, take, drop, replicate, length-append, length-map, length-set, length-replicate, getD-replicate}
 use lib.Seq.{drop-cons, getD-take, getD-set-same, getD-set-other}
 use Rattle.tanglegram.specs.Lists.{Distinct, range, place}
@@ -15,7 +16,8 @@ use Rattle.tanglegram.specs.Crossings.{across, inverted, between}
 use Rattle.tanglegram.proofs.Lists.{distinct-perm, mem-perm, mem-range, place-below}
 use Rattle.tanglegram.proofs.Tree.{object-fork, leaves-once}
 use Rattle.tanglegram.proofs.Turning.{leaf-product}
-use Rattle.trees.specs.Rows.{upper, lower, size, objectOf, treeOf, Good, LeafCounts}
+use Rattle.trees.specs.Rows.{upper, lower, size, objectOf, treeOf, Good, LeafCounts, countOf}
+use Rattle.trees.proofs.LeafCounts.{count-is}
 use Rattle.trees.proofs.ByNumber.{row-at}
 use Rattle.trees.proofs.Table.{upper-place, lower-place}
 use Rattle.trees.proofs.Walked.{length-leaves, leaves-leaf}
@@ -40,7 +42,7 @@ some-leaf (fork i u l) = omega (arith, some-leaf u, length-append (leaves u) (le
 -- where they stand is noted for the objects below `top`
 pub record Noted (far W seen from many : List ℕ) (top : ℕ) : Type 0 where
   pub from-long : length from ≡ 1024
-  pub noted : (o : ℕ) → 1 ≤ o → o < top → Stands seen (size W) (farUnder far W o) (getD from o 0) (getD many o 0)
+  pub noted : (o : ℕ) → 1 ≤ o → o < top → Stands seen (size W) (farUnder far W o) (getD from o 0) (countOf many (size W) o)
 
 -- a row's two parts, one after the other
 pub record Parts (far W seen : List ℕ) (i k first second : ℕ) : Type 0 where
@@ -59,6 +61,11 @@ own-counted p e = record {
   few = omega (arith, e, p .both-ways, p .few);
   few-over = omega (arith, p .few);
 }
+
+-- by numbers that were told
+pub parts-told : {far W seen : List ℕ} {i k first second f s : ℕ} → Parts far W seen i k first second → f ≡ first → s ≡ second →
+    Parts far W seen i k f s
+parts-told p e h = rw (e, h) p
 
 getD-mapped : (f : ℕ → ℕ) (xs : List ℕ) (k : ℕ) → k < length xs → getD (map f xs) k 0 ≡ f (getD xs k 0)
 getD-mapped f [] k h = absurd (omega arith)
@@ -128,14 +135,11 @@ module _ (W : List ℕ) (good : Good W) (far : List ℕ) (apart : Apart (size W)
         }
 
     pub noted-leaves : (from many : List ℕ) → length from ≡ 1024 →
-        ((v : ℕ) → v ≤ size W → getD from v 0 ≡ place (leaves (treeOf W)) v) → LeafCounts W many →
-        Noted far W seen from many (size W + 1)
-    noted-leaves from many h e counts = record {
+        ((v : ℕ) → v ≤ size W → getD from v 0 ≡ place (leaves (treeOf W)) v) → Noted far W seen from many (size W + 1)
+    noted-leaves from many h e = record {
       from-long = h;
       noted = λ o p q.
-          let some = good .some in
-          let one = counts .counts o p (omega arith) ∙ ap length (leaves-leaf W good o (omega arith)) in
-          rw (e o (omega arith), one) (leaf-stands o p (omega arith));
+          rw (e o (omega arith), le-leb o (size W) (omega arith)) (leaf-stands o p (omega arith));
     }
 
     -- ---- one row more
@@ -152,10 +156,10 @@ module _ (W : List ℕ) (good : Good W) (far : List ℕ) (apart : Apart (size W)
       k = getD from a 0
 
       abbrev first : ℕ
-      first = getD many a 0
+      first = countOf many (size W) a
 
       abbrev second : ℕ
-      second = getD many b 0
+      second = countOf many (size W) b
 
       first-stands : Stands seen (size W) us k first
       first-stands =
@@ -204,16 +208,16 @@ module _ (W : List ℕ) (good : Good W) (far : List ℕ) (apart : Apart (size W)
         noted = λ o c d. go o c d (ℕ-discrete o (size W + i));
       }
         where
-          made : getD many (size W + i) 0 ≡ first + second
+          made : countOf many (size W) (size W + i) ≡ first + second
           made =
-              counts .counts (size W + i) (omega arith) (omega arith)
+              count-is W good many counts (size W + i) (omega arith) (omega arith)
               ∙ sym (simp length-map refl)
               ∙ ap length (far-fork i p q)
               ∙ length-append us ls
               ∙ sym (ap₂ _+_ (first-stands .many) (second-stands .many))
 
           go : (o : ℕ) → 1 ≤ o → o < size W + (i + 1) → Dec (o ≡ size W + i) →
-              Stands seen (size W) (farUnder far W o) (getD (set from (size W + i) k) o 0) (getD many o 0)
+              Stands seen (size W) (farUnder far W o) (getD (set from (size W + i) k) o 0) (countOf many (size W) o)
           go o c d (yes e) =
               let most = good .most in
               let f = before .from-long in

@@ -12,7 +12,7 @@ use Rattle.tanglegram.specs.Tree.{leaves}
 use Rattle.tanglegram.specs.Crossings.{across, between, cost}
 use Rattle.tanglegram.specs.Freeing.{freed}
 use Rattle.tanglegram.specs.Entanglement.{sum}
-use Rattle.trees.specs.Rows.{upper, lower, size, objectOf, treeOf}
+use Rattle.trees.specs.Rows.{upper, lower, size, objectOf, treeOf, LeafCounts}
 use Rattle.trees.specs.Exchange.{exchangedAt, Exchanges, givenTree, LaidOut}
 use Rattle.leaf_arrays.specs.Arrays.{at, falls}
 
@@ -81,9 +81,11 @@ pub record Frees (w : ℕ → ℕ → ℕ) (W lay : List ℕ) (before after : �
   pub counted : before ≡ sumTo (standing w W) (size W)
   pub recounted : after ≡ sumTo (fewest w W lay) (size W)
 
--- A side in memory is freed: its layout, the sums of its rows' own crossings before and after, and its table with that layout applied.
+-- A side in memory is freed: its layout, the sums of its rows' own crossings before and after, and its table with that layout applied,
+-- in which each object has as many leaves as before.
 pub record RowsFreed (w : ℕ → ℕ → ℕ) (W lay : List ℕ) (before after : ℕ) (W′ lay′ : List ℕ) : Type 0 where
   pub leaves : lay′ ≡ freed w (givenTree W lay) lay
   pub counted : before ≡ cost w lay (givenTree W lay)
   pub recounted : after ≡ cost w lay′ (givenTree W lay)
   pub laid : LaidOut (givenTree W lay) (size W) lay′ W′
+  pub counts : (many : List ℕ) → LeafCounts W many → LeafCounts W′ many

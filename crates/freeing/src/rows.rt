@@ -4,14 +4,14 @@ ghost use mathlib.Core.Path.{_≡_};
 ghost use Prim.Native.Nat.{_+_, _*_, _≤_};
 ghost use lib.ListN.{length};
 ghost use Rattle.tanglegram.specs.Crossings.{inverted};
-ghost use Rattle.trees.specs.Rows.{Good, size};
+ghost use Rattle.trees.specs.Rows.{Good, LeafCounts, size};
 ghost use Rattle.leaf_arrays.specs.Arrays.{at};
 ghost use Rattle.freeing.specs.Row.{Apart, asItStands, Decides, InOrder, RowsFreed, theOther, turnsOver};
 use crossings::count_across;
 use leaf_arrays::held_along;
 use leaf_arrays::wide;
-use trees::count_leaves;
 use trees::flipped;
+use trees::leaves_under;
 use trees::may_change;
 use trees::note_places;
 
@@ -62,25 +62,24 @@ fn decide(tab: &mut [u16; 1023], lay: &mut [u8], row: usize, count: u32, other: 
     other
 }
 
-// Frees a side in memory, a table with the layout applied and its order: turns each row over, from its present byte,
-// exactly if that makes its own crossings strictly fewer, by the far places of the leaves' links. The leaves under an
-// object stand side by side in the order: `many` has how many they are, and `from` the first one's place, for each leaf
-// and for each object whose row has been decided. Answers the sums of the rows' own crossings, which are all crossings
-// of the side.
+// Frees a side in memory, a table with the layout applied, its rows' leaf counts and its order: turns each row over,
+// from its present byte, exactly if that makes its own crossings strictly fewer, by the far places of the leaves' links.
+// The leaves under an object stand side by side in the order; `from` has the first one's place, for each leaf and for
+// each object whose row has been decided. Answers the sums of the rows' own crossings, which are all crossings of the
+// side.
 pub fn free_rows(
     tab: &mut [u16; 1023],
+    many: &[u16; 512],
     order: &[u16; 512],
     far: &[u16; 512],
     lay: &mut [u8],
 ) -> Sums
     requires { ⌜ Good (now tab) × (length (now lay) + 1 ≡ size (now tab)) ⌝ }
-    requires { ⌜ InOrder (now tab) (now order) × Apart (size (now tab)) (now far) ⌝ }
+    requires { ⌜ LeafCounts (now tab) (now many) × InOrder (now tab) (now order) × Apart (size (now tab)) (now far) ⌝ }
     ensures { λ r. ⌜ RowsFreed (inverted (at (now (far .entry)))) (now (tab .entry)) (now (lay .entry))
         (r .before) (r .after) (now (tab .exit)) (now (lay .exit)) ⌝ }
 {
     let n = tab[1022];
-    let mut many = [1u16; 1024];
-    count_leaves(tab, &mut many);
     let mut from = [n; 1024];
     note_places(order, n, &mut from);
     let mut seen = *order;
@@ -92,8 +91,8 @@ pub fn free_rows(
         let a = wide(tab[2 * row - 2]);
         let b = wide(tab[2 * row - 1]);
         let at = from[a];
-        let first = many[a];
-        let second = many[b];
+        let first = leaves_under(many, n as usize, a);
+        let second = leaves_under(many, n as usize, b);
         let count = own_crossings(&seen, at as usize, first as usize, second as usize);
         let other = first as u32 * second as u32 - count;
         from[n as usize + row] = at;

@@ -3,7 +3,7 @@ pub mod Stores
 pub mod Objects
 pub mod Walked
 pub mod ByNumber
-pub mod LeafCounts
 pub mod Exchanged
+pub mod LeafCounts
 pub mod Laid
 pub mod Places

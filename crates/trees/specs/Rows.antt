@@ -1,8 +1,10 @@
 -- A tree's rows as a table, a list of 1023 numbers: row i has its upper entry at place 2(i - 1) and its lower one right after it, and the
 -- last place holds n. What stands between the rows and the last place plays no part.
-use Prim.Native.Nat.{ℕ, pred, _+_, _*_, _≤_, _<_}
+use Prim.Native.Nat.{ℕ, pred, _+_, _-_, _*_, _≤_, _<_}
 use mathlib.Core.Path.{_≡_}
+use mathlib.Core.Bool.{cond}
 use mathlib.Core.List.{List}
+use lib.Dec.{leb}
 use lib.ListN.{length, getD}
 use Rattle.tanglegram.specs.Tree.{Tree, leaves, object, tree, Rule}
 
@@ -30,7 +32,11 @@ pub record Good (T : List ℕ) : Type 0 where
   pub most : size T ≤ 512
   pub rule : Rule (size T) (upper T) (lower T)
 
--- How many leaves stand under each object of a table, noted by its number.
+-- How many leaves stand under the object that each row makes, noted by row.
 pub record LeafCounts (T many : List ℕ) : Type 0 where
-  pub long : length many ≡ 1024
-  pub counts : (o : ℕ) → 1 ≤ o → o < 2 * size T → getD many o 0 ≡ length (leaves (objectOf T o))
+  pub long : length many ≡ 512
+  pub counts : (i : ℕ) → 1 ≤ i → i < size T → getD many (pred i) 0 ≡ length (leaves (objectOf T (size T + i)))
+
+-- How many stand under an object by these notes, among n leaves: one, if it is a leaf, else what is noted for its row.
+abbrev pub countOf : List ℕ → ℕ → ℕ → ℕ
+countOf many n o = cond (leb o n) 1 (getD many (o - n - 1) 0)

@@ -4,10 +4,10 @@
 ghost use mathlib.Core.Path.{_≡_};
 ghost use Prim.Native.Nat.{_+_, _*_, _≤_, _<_};
 ghost use mathlib.Core.List.{_++_};
-ghost use lib.ListN.{length, drop, replicate};
+ghost use lib.ListN.{length, drop};
 ghost use lib.Seq.{sets};
 ghost use Rattle.tanglegram.specs.Tree.{leaves};
-ghost use Rattle.trees.specs.Rows.{Good, LeafCounts, size, objectOf, treeOf};
+ghost use Rattle.trees.specs.Rows.{countOf, Good, LeafCounts, size, objectOf, treeOf};
 
 // An entry as an index.
 fn wide(x: u16) -> usize
@@ -16,25 +16,35 @@ fn wide(x: u16) -> usize
     x as usize
 }
 
-// Notes how many leaves each object has: one, if it is a leaf, or those of its two children.
-pub fn count_leaves(tab: &[u16; 1023], many: &mut [u16; 1024])
-    requires { ⌜ Good (now tab) ⌝ }
-    requires { ⌜ now many ≡ replicate 1024 1 ⌝ }
+// How many leaves an object has, from the notes of the rows' counts: one, if it is a leaf.
+pub fn leaves_under(many: &[u16; 512], n: usize, obj: usize) -> u16
+    requires { ⌜ (1 ≤ n) × (n ≤ 512) × (obj < 2 * n) ⌝ }
+    ensures { λ r. ⌜ r ≡ countOf (now (many .entry)) n obj ⌝ }
+{
+    if obj <= n {
+        return 1;
+    }
+    many[obj - n - 1]
+}
+
+// Notes for each row how many leaves the object that it makes has: those of its two children.
+pub fn count_leaves(tab: &[u16; 1023], many: &mut [u16; 512])
+    requires { ⌜ Good (now tab) × (length (now many) ≡ 512) ⌝ }
     ensures { λ _. ⌜ LeafCounts (now (tab .entry)) (now (many .exit)) ⌝ }
 {
     let n = tab[1022] as usize;
     let mut i = 1;
     while i < n {
-        let a = wide(tab[2 * i - 2]);
-        let b = wide(tab[2 * i - 1]);
-        many[n + i] = many[a] + many[b];
+        let a = leaves_under(many, n, wide(tab[2 * i - 2]));
+        let b = leaves_under(many, n, wide(tab[2 * i - 1]));
+        many[i - 1] = a + b;
         i += 1;
     }
 }
 
 // Writes the leaves under object obj into out from place `at` on: the leaf itself, or those under its two children. A
 // child that is a leaf is written in its place; of two others the one with fewer leaves is walked first.
-fn walk(tab: &[u16; 1023], many: &[u16; 1024], obj: u16, out: &mut [u16; 512], at: usize)
+fn walk(tab: &[u16; 1023], many: &[u16; 512], obj: u16, out: &mut [u16; 512], at: usize)
     requires { ⌜ Good (now tab) × LeafCounts (now tab) (now many) ⌝ }
     requires { ⌜ (1 ≤ obj) × (obj < 2 * size (now tab)) ⌝ }
     requires { ⌜ at + length (leaves (objectOf (now tab) obj)) ≤ 512 ⌝ }
@@ -53,14 +63,14 @@ fn walk(tab: &[u16; 1023], many: &[u16; 1024], obj: u16, out: &mut [u16; 512], a
         walk(tab, many, b, out, at + 1);
         return;
     }
-    let first = many[a as usize] as usize;
+    let first = leaves_under(many, n as usize, a as usize) as usize;
     let mid = at + first;
     if b <= n {
         out[mid] = b;
         walk(tab, many, a, out, at);
         return;
     }
-    let second = many[b as usize] as usize;
+    let second = leaves_under(many, n as usize, b as usize) as usize;
     if first <= second {
         walk(tab, many, a, out, at);
         walk(tab, many, b, out, mid);
@@ -70,15 +80,13 @@ fn walk(tab: &[u16; 1023], many: &[u16; 1024], obj: u16, out: &mut [u16; 512], a
     }
 }
 
-// Writes the tree's leaves into out's first n places, and leaves the others as they are.
-pub fn leaf_order(tab: &[u16; 1023], out: &mut [u16; 512])
-    requires { ⌜ Good (now tab) ⌝ }
+// Writes the tree's leaves into out's first n places, and leaves the others as they are; `many` has the rows' counts.
+pub fn leaf_order(tab: &[u16; 1023], many: &[u16; 512], out: &mut [u16; 512])
+    requires { ⌜ Good (now tab) × LeafCounts (now tab) (now many) ⌝ }
     requires { ⌜ length (now out) ≡ 512 ⌝ }
     ensures { λ _. ⌜ now (out .exit)
         ≡ leaves (treeOf (now (tab .entry))) ++ drop (size (now (tab .entry))) (now (out .entry)) ⌝ }
 {
     let n = tab[1022];
-    let mut many = [1u16; 1024];
-    count_leaves(tab, &mut many);
-    walk(tab, &many, 2 * n - 1, out, 0);
+    walk(tab, many, 2 * n - 1, out, 0);
 }

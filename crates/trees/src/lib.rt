@@ -6,6 +6,7 @@ mod turning;
 
 pub use leaves::count_leaves;
 pub use leaves::leaf_order;
+pub use leaves::leaves_under;
 pub use noting::note_places;
 pub use turning::exchange;
 pub use turning::flipped;

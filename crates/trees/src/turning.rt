@@ -6,6 +6,7 @@ ghost use lib.ListN.{length, drop};
 ghost use Rattle.tanglegram.specs.Order.{flip, mayChange, turned, order};
 ghost use Rattle.trees.specs.Rows.{Good, size, treeOf};
 ghost use Rattle.trees.specs.Exchange.{exchanged};
+use crate::leaves::count_leaves;
 use crate::leaves::leaf_order;
 
 // Whether a layout byte turns its row over.
@@ -56,5 +57,7 @@ pub fn layout_order(tab: &[u16; 1023], lay: &[u8], out: &mut [u16; 512])
 {
     let mut laid = *tab;
     exchange(&mut laid, lay);
-    leaf_order(&laid, out);
+    let mut many = [0u16; 512];
+    count_leaves(&laid, &mut many);
+    leaf_order(&laid, &many, out);
 }

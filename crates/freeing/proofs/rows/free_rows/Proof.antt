@@ -12,7 +12,7 @@ use Rattle.tanglegram.specs.Tree.{leaves}
 use Rattle.trees.specs.Rows.{upper, lower, size, treeOf, LeafCounts}
 use Rattle.trees.proofs.Table.{upper-place, lower-place}
 use Rattle.leaf_arrays.specs.Arrays.{at}
-use Rattle.freeing.proofs.Counted.{Noted, Parts, own-counted, noted-leaves, noted-more, parts}
+use Rattle.freeing.proofs.Counted.{Noted, Parts, own-counted, noted-leaves, noted-more, parts, parts-told}
 use Rattle.freeing.proofs.Seen.{order-leaves, seen-long, seen-first}
 use Rattle.freeing.proofs.Freed.{FreedTo, Own, freed-none, freed-more, freed-all, decided-most}
 use Rattle.freeing.proofs.Chosen.{frees-freed}
@@ -20,22 +20,16 @@ use Rattle.freeing.proofs.rows.free_rows.Statement.{statement}
 use Rattle.freeing.proofs.rows.free_rows.Tie as tie
 
 abbrev Inv-loop : tie.InvT-loop
-Inv-loop tab₀ order far lay₀ n many from₀ seen before₀ after₀ row₀ tab lay from before after row =
+Inv-loop tab₀ many order far lay₀ n from₀ seen before₀ after₀ row₀ tab lay from before after row =
     FreedTo (inverted (at far)) tab₀ lay₀ tab lay row before after × Noted far tab₀ seen from many (size tab₀ + row)
 
 abbrev μ-loop : tie.MeasureT-loop
-μ-loop tab₀ order far lay₀ n many from₀ seen before₀ after₀ row₀ tab lay from before after row = size tab₀ - row
+μ-loop tab₀ many order far lay₀ n from₀ seen before₀ after₀ row₀ tab lay from before after row = size tab₀ - row
 
 -- ---- before the loop
 
 abbrev start : tie.After-held-along Inv-loop μ-loop → tie.Start Inv-loop μ-loop
-start c = c .before .before .before .before .before .before .before .before .before .before
-
-abbrev manyIn : tie.After-held-along Inv-loop μ-loop → List ℕ
-manyIn c = c .before .before .before .before .before .count-leaves .last .1 .0
-
-counted : (c : tie.After-held-along Inv-loop μ-loop) → LeafCounts (start c .args .tab .now) (manyIn c)
-counted c = c .before .before .before .before .before .count-leaves .ensures
+start c = c .before .before .before .before .before .before .before
 
 abbrev seenIn : tie.After-held-along Inv-loop μ-loop → List ℕ
 seenIn c = c .held-along .last .1 .1 .0
@@ -43,7 +37,7 @@ seenIn c = c .held-along .last .1 .1 .0
 seen-long-here : (c : tie.After-held-along Inv-loop μ-loop) → length (seenIn c) ≡ 512
 seen-long-here c =
     let s = start c in
-    seen-long (s .args .tab .now) (s .pre .0 .0) (s .args .order .now) (s .pre .1 .0) (s .args .far .now) (seenIn c)
+    seen-long (s .args .tab .now) (s .pre .0 .0) (s .args .order .now) (s .pre .1 .1) (s .args .far .now) (seenIn c)
     (c .held-along .ensures)
 
 seen-first-here : (c : tie.After-held-along Inv-loop μ-loop) →
@@ -51,7 +45,7 @@ seen-first-here : (c : tie.After-held-along Inv-loop μ-loop) →
     take (size (a .tab .now)) (seenIn c) ≡ map (at (a .far .now)) (leaves (treeOf (a .tab .now)))
 seen-first-here c =
     let s = start c in
-    seen-first (s .args .tab .now) (s .pre .0 .0) (s .args .order .now) (s .pre .1 .0) (s .args .far .now) (seenIn c)
+    seen-first (s .args .tab .now) (s .pre .0 .0) (s .args .order .now) (s .pre .1 .1) (s .args .far .now) (seenIn c)
     (c .held-along .ensures)
 
 -- ---- at a row
@@ -82,81 +76,86 @@ second-entry c =
     c .wide2 .ensures ∙ ap (λ k. getD (l .loop .tab) k 0) (lower-place row (l .loop .inv .0 .from))
     ∙ l .loop .inv .0 .kept-rows (2 * pred row + 1) (omega arith)
 
+-- so they are objects made before
+first-below : (c : tie.After-wide2 Inv-loop μ-loop) → c .before .before .wide .result < 2 * size (startOf (atLoop c) .args .tab .now)
+first-below c =
+    let l = atLoop c in
+    let below = row-below c in
+    let rule = startOf l .pre .0 .0 .rule (l .loop .row) (l .loop .inv .0 .from) below in
+    omega (arith, first-entry c)
+
+second-below : (c : tie.After-wide2 Inv-loop μ-loop) → c .wide2 .result < 2 * size (startOf (atLoop c) .args .tab .now)
+second-below c =
+    let l = atLoop c in
+    let below = row-below c in
+    let rule = startOf l .pre .0 .0 .rule (l .loop .row) (l .loop .inv .0 .from) below in
+    omega (arith, second-entry c)
+
 first-index : (c : tie.After-wide2 Inv-loop μ-loop) → c .before .before .wide .result < 1024
-first-index c =
-    let l = atLoop c in
-    let s = startOf l in
-    let most = s .pre .0 .0 .most in
-    let below = row-below c in
-    let rule = s .pre .0 .0 .rule (l .loop .row) (l .loop .inv .0 .from) (row-below c) in
-    rw (first-entry c) (omega arith)
+first-index c = let most = startOf (atLoop c) .pre .0 .0 .most in omega (arith, first-below c)
 
-second-index : (c : tie.After-wide2 Inv-loop μ-loop) → c .wide2 .result < 1024
-second-index c =
-    let l = atLoop c in
-    let s = startOf l in
-    let most = s .pre .0 .0 .most in
-    let below = row-below c in
-    let rule = s .pre .0 .0 .rule (l .loop .row) (l .loop .inv .0 .from) (row-below c) in
-    rw (second-entry c) (omega arith)
+-- as `leaves_under` asks
+object-below : (c : tie.After-wide2 Inv-loop μ-loop) {o : ℕ} → let n = size (startOf (atLoop c) .args .tab .now) in
+    o < 2 * n → (1 ≤ n) × (n ≤ 512) × (o < 2 * n)
+object-below c h = let g = startOf (atLoop c) .pre .0 .0 in (g .some, g .most, h)
 
-parts-here : (c : tie.After-wide2 Inv-loop μ-loop) →
-    let l = atLoop c in
-    let a = startOf l .args in
-    let first = c .before .before .wide .result in
-    Parts (a .far .now) (a .tab .now) (seenIn (l .before)) (l .loop .row) (getD (l .loop .from) first 0) (getD (manyIn (l .before)) first 0)
-    (getD (manyIn (l .before)) (c .wide2 .result) 0)
-parts-here c =
-    let l = atLoop c in
-    let s = startOf l in
-    parts (s .args .tab .now) (s .pre .0 .0) (s .args .far .now) (s .pre .1 .1) (seenIn (l .before)) (seen-long-here (l .before))
-    (seen-first-here (l .before)) (l .loop .from) (manyIn (l .before)) (l .loop .row) (l .loop .inv .0 .from) (row-below c)
-    (l .loop .inv .1) (c .before .before .wide .result) (c .wide2 .result) (first-entry c) (second-entry c)
-
-within : (c : tie.After-wide2 Inv-loop μ-loop) →
-    let l = atLoop c in
-    let a = startOf l .args in
-    let first = c .before .before .wide .result in
-    getD (l .loop .from) first 0 + getD (manyIn (l .before)) first 0 + getD (manyIn (l .before)) (c .wide2 .result) 0 ≤ 512
-within c = let most = startOf (atLoop c) .pre .0 .0 .most in omega (arith, parts-here c .fits)
-
--- ---- its own crossings, as it stands and turned over
-
-abbrev atRow : tie.After-own-crossings Inv-loop μ-loop → tie.After-wide2 Inv-loop μ-loop
+abbrev atRow : tie.After-leaves-under2 Inv-loop μ-loop → tie.After-wide2 Inv-loop μ-loop
 atRow c = c .before .before
 
-own-here : (c : tie.After-own-crossings Inv-loop μ-loop) →
+parts-here : (c : tie.After-leaves-under2 Inv-loop μ-loop) →
     let w = atRow c in
     let l = atLoop w in
     let a = startOf l .args in
-    let first = getD (manyIn (l .before)) (w .before .before .wide .result) 0 in
-    let second = getD (manyIn (l .before)) (w .wide2 .result) 0 in
+    Parts (a .far .now) (a .tab .now) (seenIn (l .before)) (l .loop .row) (getD (l .loop .from) (w .before .before .wide .result) 0)
+    (c .before .leaves-under .result) (c .leaves-under2 .result)
+parts-here c =
+    let w = atRow c in
+    let l = atLoop w in
+    let s = startOf l in
+    parts-told
+    (parts (s .args .tab .now) (s .pre .0 .0) (s .args .far .now) (s .pre .1 .2) (seenIn (l .before)) (seen-long-here (l .before))
+    (seen-first-here (l .before)) (l .loop .from) (s .args .many .now) (l .loop .row) (l .loop .inv .0 .from) (row-below w)
+    (l .loop .inv .1) (w .before .before .wide .result) (w .wide2 .result) (first-entry w) (second-entry w))
+    (c .before .leaves-under .ensures) (c .leaves-under2 .ensures)
+
+within : (c : tie.After-leaves-under2 Inv-loop μ-loop) →
+    let w = atRow c in
+    let l = atLoop w in
+    getD (l .loop .from) (w .before .before .wide .result) 0 + c .before .leaves-under .result + c .leaves-under2 .result ≤ 512
+within c = let most = startOf (atLoop (atRow c)) .pre .0 .0 .most in omega (arith, parts-here c .fits)
+
+-- ---- its own crossings, as it stands and turned over
+
+abbrev countsAt : tie.After-own-crossings Inv-loop μ-loop → tie.After-leaves-under2 Inv-loop μ-loop
+countsAt c = c .before .before
+
+own-here : (c : tie.After-own-crossings Inv-loop μ-loop) →
+    let v = countsAt c in
+    let l = atLoop (atRow v) in
+    let a = startOf l .args in
     Own (inverted (at (a .far .now))) (a .tab .now) (l .loop .row) (c .own-crossings .result)
-    (first * second - c .own-crossings .result)
-own-here c = own-counted (parts-here (atRow c)) (c .own-crossings .ensures)
+    (v .before .leaves-under .result * v .leaves-under2 .result - c .own-crossings .result)
+own-here c = own-counted (parts-here (countsAt c)) (c .own-crossings .ensures)
 
 -- ---- the needs
 
 element-copy-out-n : tie.Need-element-copy-out-n Inv-loop μ-loop
 element-copy-out-n c = search needs
 
-count-leaves-requires : tie.Need-count-leaves-requires Inv-loop μ-loop
-count-leaves-requires c κs = search needs
-
 note-places-requires : tie.Need-note-places-requires Inv-loop μ-loop
 note-places-requires c κs =
-    let s = c .before .before .before .before .before .before in
-    (s .pre .0 .0 .most, s .pre .1 .0 .long, refl)
+    let s = c .before .before .before in
+    (s .pre .0 .0 .most, s .pre .1 .1 .long, refl)
 
 cast-held-along : tie.Need-cast-held-along Inv-loop μ-loop
 cast-held-along c = search needs
 
 held-along-requires : tie.Need-held-along-requires Inv-loop μ-loop
 held-along-requires c κs =
-    let s = c .before .before .before .before .before .before .before .before .before in
+    let s = c .before .before .before .before .before .before in
     let most = s .pre .0 .0 .most in
-    let long = s .pre .1 .0 .long in
-    (most, omega arith, order-leaves (s .args .tab .now) (s .pre .0 .0) (s .args .order .now) (s .pre .1 .0))
+    let long = s .pre .1 .1 .long in
+    (most, omega arith, order-leaves (s .args .tab .now) (s .pre .0 .0) (s .args .order .now) (s .pre .1 .1))
 
 loop-holds : tie.Need-loop-holds Inv-loop μ-loop
 loop-holds c =
@@ -165,10 +164,10 @@ loop-holds c =
     let g = s .pre .0 .0 in
     let p = c .before .before .before .note-places in
     let places : (v : ℕ) → v ≤ size W → getD (p .last .1 .1 .0) v 0 ≡ place (leaves (treeOf W)) v =
-    λ v h. p .ensures .1 v h ∙ ap (λ l. place l v) (s .pre .1 .0 .first) in (
+    λ v h. p .ensures .1 v h ∙ ap (λ l. place l v) (s .pre .1 .1 .first) in (
       freed-none (inverted (at (s .args .far .now))) W (s .args .lay .now) (s .pre .0 .1) (g .most),
-      noted-leaves W g (s .args .far .now) (s .pre .1 .1) (seenIn c) (seen-long-here c) (seen-first-here c) (p .last .1 .1 .0)
-          (manyIn c) (p .ensures .0) places (counted c),
+      noted-leaves W g (s .args .far .now) (s .pre .1 .2) (seenIn c) (seen-long-here c) (seen-first-here c) (p .last .1 .1 .0)
+          (s .args .many .now) (p .ensures .0) places,
     )
 
 mul-wide : tie.Need-mul-wide Inv-loop μ-loop
@@ -207,17 +206,17 @@ mul-at c = omega (arith, first-index c)
 array-read-at : tie.Need-array-read-at Inv-loop μ-loop
 array-read-at c = first-index c
 
-mul-first : tie.Need-mul-first Inv-loop μ-loop
-mul-first c = omega (arith, first-index c)
+cast-leaves-under : tie.Need-cast-leaves-under Inv-loop μ-loop
+cast-leaves-under c = search needs
 
-array-read-first : tie.Need-array-read-first Inv-loop μ-loop
-array-read-first c = first-index c
+leaves-under-requires : tie.Need-leaves-under-requires Inv-loop μ-loop
+leaves-under-requires c κs = object-below c (first-below c)
 
-mul-second : tie.Need-mul-second Inv-loop μ-loop
-mul-second c = omega (arith, second-index c)
+cast-leaves-under-2 : tie.Need-cast-leaves-under-2 Inv-loop μ-loop
+cast-leaves-under-2 c = search needs
 
-array-read-second : tie.Need-array-read-second Inv-loop μ-loop
-array-read-second c = second-index c
+leaves-under-requires-2 : tie.Need-leaves-under-requires-2 Inv-loop μ-loop
+leaves-under-requires-2 c κs = object-below (c .before) (second-below (c .before))
 
 cast-own-crossings : tie.Need-cast-own-crossings Inv-loop μ-loop
 cast-own-crossings c = omega (arith, within (c .before))
@@ -230,21 +229,21 @@ cast-own-crossings-3 c = omega (arith, within (c .before))
 
 own-crossings-requires : tie.Need-own-crossings-requires Inv-loop μ-loop
 own-crossings-requires c κs =
-    let w = c .before in
-    let long = seen-long-here (atLoop w .before) in
-    ((omega (arith, within w), long), parts-here w .both-ways)
+    let v = c .before in
+    let long = seen-long-here (atLoop (atRow v) .before) in
+    ((omega (arith, within v), long), parts-here v .both-ways)
 
 cast-other : tie.Need-cast-other Inv-loop μ-loop
-cast-other c = omega (arith, within (atRow c))
+cast-other c = omega (arith, within (countsAt c))
 
 cast-other-2 : tie.Need-cast-other-2 Inv-loop μ-loop
-cast-other-2 c = omega (arith, within (atRow c))
+cast-other-2 c = omega (arith, within (countsAt c))
 
 mul-other : tie.Need-mul-other Inv-loop μ-loop
-mul-other c = omega (arith, parts-here (atRow c) .few)
+mul-other c = omega (arith, parts-here (countsAt c) .few)
 
 sub-other : tie.Need-sub-other Inv-loop μ-loop
-sub-other c = omega (arith, c .own-crossings .ensures, parts-here (atRow c) .both-ways)
+sub-other c = omega (arith, c .own-crossings .ensures, parts-here (countsAt c) .both-ways)
 
 cast-from : tie.Need-cast-from Inv-loop μ-loop
 cast-from c = search needs
@@ -260,14 +259,14 @@ array-write-from c = search needs
 
 add-before : tie.Need-add-before Inv-loop μ-loop
 add-before c =
-    let w = atRow c in
+    let w = atRow (countsAt c) in
     let l = atLoop w in
     let most = startOf l .pre .0 .0 .most in
     omega (arith, row-below w, l .loop .inv .0 .before-few, own-here c .few)
 
 decide-requires : tie.Need-decide-requires Inv-loop μ-loop
 decide-requires c κs =
-    let w = atRow (c .before .before) in
+    let w = atRow (countsAt (c .before .before)) in
     let l = atLoop w in
     let most = startOf l .pre .0 .0 .most in
     let n = l .loop .inv .0 .long in
@@ -277,7 +276,7 @@ add-after : tie.Need-add-after Inv-loop μ-loop
 add-after c =
     let d = c .before .before in
     let o = d .before .before .before in
-    let w = atRow o in
+    let w = atRow (countsAt o) in
     let l = atLoop w in
     let most = startOf l .pre .0 .0 .most in
     let own = own-here o in
@@ -289,7 +288,10 @@ add-after c =
     )
 
 add-row : tie.Need-add-row Inv-loop μ-loop
-add-row c = search needs
+add-row c =
+    let w = atRow (countsAt (c .before .before .before .before .before)) in
+    let most = startOf (atLoop w) .pre .0 .0 .most in
+    omega (arith, row-below w)
 
 loop-less : tie.Need-loop-less Inv-loop μ-loop
 loop-less c = search needs
@@ -298,16 +300,16 @@ loop-again : tie.Need-loop-again Inv-loop μ-loop
 loop-again c =
     let d = c .before .before in
     let o = d .before .before .before in
-    let w = atRow o in
+    let w = atRow (countsAt o) in
     let l = atLoop w in
     let s = startOf l in
     let a = s .args in
     let freed = freed-more (inverted (at (a .far .now))) (a .tab .now) (a .lay .now) (s .pre .0 .1) (s .pre .0 .0 .most) (l .loop .tab)
     (l .loop .lay) (l .loop .row) (l .loop .before) (l .loop .after) (l .loop .inv .0) (row-below w) _ _ (own-here o) _ _ _
     (d .decide .ensures) in
-    let noted = noted-more (a .tab .now) (s .pre .0 .0) (a .far .now) (s .pre .1 .1) (seenIn (l .before)) (seen-long-here (l .before))
-    (seen-first-here (l .before)) (l .loop .from) (manyIn (l .before)) (l .loop .row) (l .loop .inv .0 .from) (row-below w) (l .loop .inv .1)
-    (w .before .before .wide .result) (w .wide2 .result) (first-entry w) (second-entry w) (counted (l .before)) in
+    let noted = noted-more (a .tab .now) (s .pre .0 .0) (a .far .now) (s .pre .1 .2) (seenIn (l .before)) (seen-long-here (l .before))
+    (seen-first-here (l .before)) (l .loop .from) (a .many .now) (l .loop .row) (l .loop .inv .0 .from) (row-below w) (l .loop .inv .1)
+    (w .before .before .wide .result) (w .wide2 .result) (first-entry w) (second-entry w) (s .pre .1 .0) in
     (freed, noted)
 
 same-length : tie.Need-same-length Inv-loop μ-loop
@@ -330,7 +332,6 @@ free-rows-spec =
     Inv-loop
     μ-loop
     element-copy-out-n
-    count-leaves-requires
     note-places-requires
     cast-held-along
     held-along-requires
@@ -347,10 +348,10 @@ free-rows-spec =
     wide-requires-2
     mul-at
     array-read-at
-    mul-first
-    array-read-first
-    mul-second
-    array-read-second
+    cast-leaves-under
+    leaves-under-requires
+    cast-leaves-under-2
+    leaves-under-requires-2
     cast-own-crossings
     cast-own-crossings-2
     cast-own-crossings-3

@@ -1,49 +1,48 @@
--- `count_leaves` meets its contract. The loop's invariant: the objects below n + i have their counts.
-use Prim.Native.Nat.{_+_, _-_, _≤_, _<_}
+-- `count_leaves` meets its contract. The loop's invariant: the rows before row i have their counts.
+use Prim.Native.Nat.{_+_, _-_, _*_, _≤_, _<_}
 use native.Mathlib.Omega.{arith}
-use Rattle.trees.specs.Rows.{size}
-use Rattle.trees.proofs.LeafCounts.{CountedTo, counted-leaves, counted-more, counted-all, both-within, first-below, second-below}
+use mathlib.Core.Path.{_≡_, ap, _∙_}
+use lib.ListN.{getD}
+use Rattle.trees.specs.Rows.{size, countOf}
+use Rattle.trees.proofs.LeafCounts.{CountedTo, counted-none, counted-more, counted-all, both-within, first-below, second-below}
 use borrow.Author.Needs.{needs}
 use Rattle.trees.proofs.leaves.count_leaves.Statement.{statement}
 use Rattle.trees.proofs.leaves.count_leaves.Tie as tie
 
 abbrev Inv-loop : tie.InvT-loop
-Inv-loop tab many₀ n i₀ many i = (1 ≤ i) × (i ≤ size tab) × CountedTo tab many (size tab + i)
+Inv-loop tab many₀ n i₀ many i = CountedTo tab many i
 
 abbrev μ-loop : tie.MeasureT-loop
 μ-loop tab many₀ n i₀ many i = size tab - i
 
 -- ---- at a row
 
-abbrev atLoop : tie.After-wide2 Inv-loop μ-loop → tie.At-loop Inv-loop μ-loop
-atLoop c = c .before .before .before .before .before
+abbrev atLoop : tie.After-leaves-under2 Inv-loop μ-loop → tie.At-loop Inv-loop μ-loop
+atLoop c = c .before .before .before .before .before .before .before .before .before
 
-row-below : (c : tie.After-wide2 Inv-loop μ-loop) → atLoop c .loop .i < size (atLoop c .before .before .args .tab .now)
-row-below c = omega arith
+abbrev startOf : tie.At-loop Inv-loop μ-loop → tie.Start Inv-loop μ-loop
+startOf c = c .before .before
 
-first-index : (c : tie.After-wide2 Inv-loop μ-loop) → c .before .before .wide .result < 1024
-first-index c =
+row-below : (l : tie.In-loop Inv-loop μ-loop) → l .before .loop .i < size (startOf (l .before) .args .tab .now)
+row-below l = omega arith
+
+-- its entries' counts
+first-count : (c : tie.After-leaves-under2 Inv-loop μ-loop) →
     let l = atLoop c in
-    let s = l .before .before in
-    let most = s .pre .0 .most in
-    omega (
-      arith,
-      first-below (s .args .tab .now) (s .pre .0) (l .loop .i) (l .loop .inv .0) (row-below c),
-      row-below c,
-      c .before .before .wide .ensures,
-    )
-
-second-index : (c : tie.After-wide2 Inv-loop μ-loop) → c .wide2 .result < 1024
-second-index c =
+    let T = startOf l .args .tab .now in
+    c .before .before .before .before .leaves-under .result ≡ countOf (l .loop .many) (size T) (getD T (2 * l .loop .i - 2) 0)
+first-count c =
     let l = atLoop c in
-    let s = l .before .before in
-    let most = s .pre .0 .most in
-    omega (
-      arith,
-      second-below (s .args .tab .now) (s .pre .0) (l .loop .i) (l .loop .inv .0) (row-below c),
-      row-below c,
-      c .wide2 .ensures,
-    )
+    let u = c .before .before .before .before in
+    u .leaves-under .ensures ∙ ap (countOf (l .loop .many) (size (startOf l .args .tab .now))) (u .before .wide .ensures)
+
+second-count : (c : tie.After-leaves-under2 Inv-loop μ-loop) →
+    let l = atLoop c in
+    let T = startOf l .args .tab .now in
+    c .leaves-under2 .result ≡ countOf (l .loop .many) (size T) (getD T (2 * l .loop .i - 1) 0)
+second-count c =
+    let l = atLoop c in
+    c .leaves-under2 .ensures ∙ ap (countOf (l .loop .many) (size (startOf l .args .tab .now))) (c .before .wide2 .ensures)
 
 -- ---- the needs
 
@@ -54,10 +53,7 @@ cast-n : tie.Need-cast-n Inv-loop μ-loop
 cast-n c = search needs
 
 loop-holds : tie.Need-loop-holds Inv-loop μ-loop
-loop-holds c =
-    let g = c .before .pre .0 in
-    let some = g .some in
-    (omega arith, omega arith, rw (c .before .pre .1) (counted-leaves (c .before .args .tab .now) g))
+loop-holds c = counted-none (c .before .args .tab .now) (c .before .pre .0) (c .before .args .many .now) (c .before .pre .1)
 
 mul-wide : tie.Need-mul-wide Inv-loop μ-loop
 mul-wide c = search needs
@@ -74,6 +70,18 @@ element-copy-out-wide c = search needs
 wide-requires : tie.Need-wide-requires Inv-loop μ-loop
 wide-requires c κs = search needs
 
+leaves-under-requires : tie.Need-leaves-under-requires Inv-loop μ-loop
+leaves-under-requires c κs =
+    let i = c .before .before .before in
+    let l = i .before in
+    let s = startOf l in
+    let g = s .pre .0 in
+    let h = row-below i in (
+      g .some,
+      g .most,
+      omega (arith, c .wide .ensures, first-below (s .args .tab .now) g (l .loop .i) (l .loop .inv .from) h),
+    )
+
 mul-wide-3 : tie.Need-mul-wide-3 Inv-loop μ-loop
 mul-wide-3 c = search needs
 
@@ -89,38 +97,42 @@ element-copy-out-wide-2 c = search needs
 wide-requires-2 : tie.Need-wide-requires-2 Inv-loop μ-loop
 wide-requires-2 c κs = search needs
 
-mul-many : tie.Need-mul-many Inv-loop μ-loop
-mul-many c = omega (arith, first-index c)
-
-element-copy-out-many : tie.Need-element-copy-out-many Inv-loop μ-loop
-element-copy-out-many c = first-index c
-
-mul-many-2 : tie.Need-mul-many-2 Inv-loop μ-loop
-mul-many-2 c = omega (arith, second-index (c .before))
-
-element-copy-out-many-2 : tie.Need-element-copy-out-many-2 Inv-loop μ-loop
-element-copy-out-many-2 c = second-index (c .before)
+leaves-under-requires-2 : tie.Need-leaves-under-requires-2 Inv-loop μ-loop
+leaves-under-requires-2 c κs =
+    let i = c .before .before .before .before .before .before .before in
+    let l = i .before in
+    let s = startOf l in
+    let g = s .pre .0 in
+    let h = row-below i in (
+      g .some,
+      g .most,
+      omega (arith, c .wide2 .ensures, second-below (s .args .tab .now) g (l .loop .i) (l .loop .inv .from) h),
+    )
 
 add-many : tie.Need-add-many Inv-loop μ-loop
 add-many c =
-    let w = c .before .before in
-    let l = atLoop w in
-    let s = l .before .before in
+    let i = c .before .before .before .before .before .before .before .before in
+    let l = atLoop c in
+    let s = startOf l in
     let most = s .pre .0 .most in
     omega (
       arith,
-      both-within (s .args .tab .now) (s .pre .0) (l .loop .i) (l .loop .inv .0) (row-below w) (l .loop .many) (l .loop .inv .2)
-          (w .before .before .wide .result) (w .wide2 .result) (w .before .before .wide .ensures) (w .wide2 .ensures),
+      both-within (s .args .tab .now) (s .pre .0) (l .loop .i) (l .loop .inv .from) (row-below i) (l .loop .many) (l .loop .inv)
+          _ _ (first-count c) (second-count c),
     )
 
-add-many-2 : tie.Need-add-many-2 Inv-loop μ-loop
-add-many-2 c = search needs
+sub-many : tie.Need-sub-many Inv-loop μ-loop
+sub-many c = search needs
 
-mul-many-3 : tie.Need-mul-many-3 Inv-loop μ-loop
-mul-many-3 c = search needs
+mul-many : tie.Need-mul-many Inv-loop μ-loop
+mul-many c =
+    let most = startOf (atLoop c) .pre .0 .most in
+    omega (arith, row-below (c .before .before .before .before .before .before .before .before))
 
 element-write-many : tie.Need-element-write-many Inv-loop μ-loop
-element-write-many c = search needs
+element-write-many c =
+    let most = startOf (atLoop c) .pre .0 .most in
+    omega (arith, row-below (c .before .before .before .before .before .before .before .before))
 
 add-i : tie.Need-add-i Inv-loop μ-loop
 add-i c = search needs
@@ -130,21 +142,17 @@ loop-less c = search needs
 
 loop-again : tie.Need-loop-again Inv-loop μ-loop
 loop-again c =
-    let w = c .before .before in
-    let l = atLoop w in
-    let s = l .before .before in (
-      omega arith,
-      omega (arith, row-below w),
-      counted-more (s .args .tab .now) (s .pre .0) (l .loop .i) (l .loop .inv .0) (row-below w)
-          (l .loop .many) (l .loop .inv .2) (w .before .before .wide .result) (w .wide2 .result) (w .before .before .wide .ensures)
-          (w .wide2 .ensures),
-    )
+    let i = c .before .before .before .before .before .before .before .before in
+    let l = atLoop c in
+    let s = startOf l in
+    counted-more (s .args .tab .now) (s .pre .0) (l .loop .i) (l .loop .inv .from) (row-below i) (l .loop .many) (l .loop .inv) _ _
+    (first-count c) (second-count c)
 
 returns : tie.Need-returns Inv-loop μ-loop
 returns c =
     let l = c .before in
-    let s = l .before .before in
-    counted-all (s .args .tab .now) (s .pre .0) (l .loop .many) (l .loop .i) (l .loop .inv .2) (omega arith)
+    let s = startOf l in
+    counted-all (s .args .tab .now) (s .pre .0) (l .loop .many) (l .loop .i) (l .loop .inv) (omega arith)
 
 pub count-leaves-spec : {M : Type 1} → statement M
 count-leaves-spec =
@@ -160,18 +168,16 @@ count-leaves-spec =
     mul-wide-2
     element-copy-out-wide
     wide-requires
+    leaves-under-requires
     mul-wide-3
     sub-wide-2
     mul-wide-4
     element-copy-out-wide-2
     wide-requires-2
-    mul-many
-    element-copy-out-many
-    mul-many-2
-    element-copy-out-many-2
+    leaves-under-requires-2
     add-many
-    add-many-2
-    mul-many-3
+    sub-many
+    mul-many
     element-write-many
     add-i
     loop-less

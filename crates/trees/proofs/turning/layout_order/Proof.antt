@@ -1,24 +1,35 @@
 -- `layout_order` meets its contract: the leaves of the exchanged table stand in the layout's order.
-use mathlib.Core.Path.{_∙_}
-use borrow.Author.Needs.{needs}
+use mathlib.Core.Path.{refl, _∙_}
+use Rattle.trees.specs.Rows.{Good}
 use Rattle.trees.proofs.Laid.{exchanged-good, exchanged-written}
+use borrow.Author.Needs.{needs}
 use Rattle.trees.proofs.turning.layout_order.Statement.{statement}
 use Rattle.trees.proofs.turning.layout_order.Tie as tie
+
+good-laid : (c : tie.After-exchange) → Good (c .exchange .last .0)
+good-laid c =
+    let s = c .before .before .before .before in
+    rw (c .exchange .ensures) (exchanged-good (s .args .tab .now) (s .args .lay .now) (s .pre .0))
 
 exchange-requires : tie.Need-exchange-requires
 exchange-requires c κs = search needs
 
+count-leaves-requires : tie.Need-count-leaves-requires
+count-leaves-requires c κs = (good-laid (c .before .before), refl)
+
 leaf-order-requires : tie.Need-leaf-order-requires
 leaf-order-requires c κs =
-    let s = c .before .before .before .before .before .before in
-    (rw (c .before .before .exchange .ensures) (exchanged-good (s .args .tab .now) (s .args .lay .now) (s .pre .0)), s .pre .1 .1)
+    let v = c .before .before .before in
+    let e = v .before .before .before in
+    ((good-laid e, v .count-leaves .ensures), e .before .before .before .before .pre .1 .1)
 
 returns : tie.Need-returns
 returns c =
-    let s = c .before .before .before .before .before .before .before in
+    let e = c .before .before .before .before .before .before .before in
+    let s = e .before .before .before .before in
     c .leaf-order .ensures
-    ∙ rw (c .before .before .before .exchange .ensures)
-    (exchanged-written (s .args .tab .now) (s .args .lay .now) (s .pre .0) (s .args .out .now))
+    ∙ rw (e .exchange .ensures) (exchanged-written (s .args .tab .now) (s .args .lay .now) (s .pre .0) (s .args .out .now))
 
 pub layout-order-spec : {M : Type 1} → statement M
-layout-order-spec = tie.close (tie.spec exchange-requires leaf-order-requires returns)
+layout-order-spec =
+    tie.close (tie.spec exchange-requires count-leaves-requires leaf-order-requires returns)
