@@ -60,6 +60,7 @@ freed-by {n} {far} {W} {lay} {W′} {lay′} f holds once r =
       counted = r .counted ∙ cost-cong (inverted (at far)) (inverted f) Held t lay same held;
       recounted = r .recounted ∙ cost-cong (inverted (at far)) (inverted f) Held t lay′ same held;
       laid = r .laid;
+      counts = r .counts;
     }
 
 -- by where the links end in an order of the other side

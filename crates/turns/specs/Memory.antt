@@ -8,6 +8,7 @@ use Rattle.tanglegram.specs.Tree.{Tree}
 use Rattle.tanglegram.specs.Run.{Side, left, right, run, onward, ComesTo}
 use Rattle.tanglegram.specs.Table.{Table, Layouts, pick, linked, crossings, free}
 use Rattle.trees.specs.Exchange.{givenTree, LaidOut}
+use Rattle.trees.specs.Rows.{LeafCounts}
 use Rattle.leaf_arrays.specs.Arrays.{OneToN}
 use Rattle.freeing.specs.Row.{InOrder}
 
@@ -27,6 +28,11 @@ pub record InMemory (t u : Tree) (n : ℕ) (links L l R r : List ℕ) : Type 0 w
 -- A side's order is at hand: its array has the table's leaves in its first places.
 abbrev pub orderIn : Side → List ℕ → List ℕ → List ℕ → List ℕ → Type 0
 orderIn side L lo R ro = InOrder (pick L R side) (pick lo ro side)
+
+-- Both tables' leaf counts are at hand.
+pub record Counted (L lm R rm : List ℕ) : Type 0 where
+  pub left-counts : LeafCounts L lm
+  pub right-counts : LeafCounts R rm
 
 -- A side freed, from the layouts `at`: the counts before and after, the layouts, and the arrays afterwards.
 module _ (t u : Tree) (n : ℕ) (links : List ℕ) where

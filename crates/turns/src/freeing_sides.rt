@@ -12,11 +12,12 @@ ghost use Rattle.trees.specs.Exchange.{givenTree};
 ghost use Rattle.trees.specs.Rows.{Good, size, treeOf};
 ghost use Rattle.leaf_arrays.specs.Arrays.{OneToN};
 ghost use Rattle.freeing.specs.Row.{InOrder, RowsFreed};
-ghost use Rattle.turns.specs.Memory.{InMemory, layoutsFrom, orderIn, SideFreed};
+ghost use Rattle.turns.specs.Memory.{Counted, InMemory, layoutsFrom, orderIn, SideFreed};
 use freeing::Sums;
 use freeing::free_rows;
 use linked_orders::far_of_left;
 use linked_orders::far_of_right;
+use trees::count_leaves;
 use trees::leaf_order;
 
 // Frees the left side, by its own order and the right side's, which is written.
@@ -25,12 +26,15 @@ fn free_left(
     right: &[u16; 1023],
     links: &[u16; 512],
     leftlay: &mut [u8],
+    leftmany: &[u16; 512],
+    rightmany: &[u16; 512],
     leftorder: &[u16; 512],
     rightorder: &mut [u16; 512],
 ) -> Sums
     requires { ⌜ Good (now left) × Good (now right) × (size (now right) ≡ size (now left)) ⌝ }
     requires { ⌜ (length (now leftlay) + 1 ≡ size (now left)) × OneToN (size (now left)) (now links) ⌝ }
     requires { ⌜ InOrder (now left) (now leftorder) × (length (now rightorder) ≡ 512) ⌝ }
+    requires { ⌜ Counted (now left) (now leftmany) (now right) (now rightmany) ⌝ }
     ensures { λ r. ⌜
         RowsFreed
         (seenLeft (take (size (now (left .entry))) (now (links .entry))) (leaves (treeOf (now (right .entry)))))
@@ -39,10 +43,10 @@ fn free_left(
         ⌝ }
 {
     let n = left[1022] as usize;
-    leaf_order(right, rightorder);
+    leaf_order(right, rightmany, rightorder);
     let mut far = [0u16; 512];
     far_of_left(links, rightorder, n, &mut far);
-    free_rows(left, leftorder, &far, leftlay)
+    free_rows(left, leftmany, leftorder, &far, leftlay)
 }
 
 // Frees the right side, by its own order and the left side's, which is written.
@@ -51,12 +55,15 @@ fn free_right(
     right: &mut [u16; 1023],
     links: &[u16; 512],
     rightlay: &mut [u8],
+    leftmany: &[u16; 512],
+    rightmany: &[u16; 512],
     leftorder: &mut [u16; 512],
     rightorder: &[u16; 512],
 ) -> Sums
     requires { ⌜ Good (now left) × Good (now right) × (size (now left) ≡ size (now right)) ⌝ }
     requires { ⌜ (length (now rightlay) + 1 ≡ size (now right)) × OneToN (size (now right)) (now links) ⌝ }
     requires { ⌜ InOrder (now right) (now rightorder) × (length (now leftorder) ≡ 512) ⌝ }
+    requires { ⌜ Counted (now left) (now leftmany) (now right) (now rightmany) ⌝ }
     ensures { λ r. ⌜
         RowsFreed
         (seenRight (take (size (now (right .entry))) (now (links .entry))) (leaves (treeOf (now (left .entry)))))
@@ -65,10 +72,10 @@ fn free_right(
         ⌝ }
 {
     let n = right[1022] as usize;
-    leaf_order(left, leftorder);
+    leaf_order(left, leftmany, leftorder);
     let mut far = [0u16; 512];
     far_of_right(links, leftorder, n, &mut far);
-    free_rows(right, rightorder, &far, rightlay)
+    free_rows(right, rightmany, rightorder, &far, rightlay)
 }
 
 // Takes a turn: frees a side whose order is at hand. The other side's order is at hand afterwards.
@@ -78,6 +85,8 @@ pub fn take_turn(
     links: &[u16; 512],
     leftlay: &mut [u8],
     rightlay: &mut [u8],
+    leftmany: &[u16; 512],
+    rightmany: &[u16; 512],
     leftorder: &mut [u16; 512],
     rightorder: &mut [u16; 512],
     side: u16,
@@ -85,7 +94,10 @@ pub fn take_turn(
     requires { ⌜ InMemory (givenTree (now left) (now leftlay)) (givenTree (now right) (now rightlay)) (size (now left))
         (now links) (now left) (now leftlay) (now right) (now rightlay) ⌝ }
     requires { ⌜ (isSide side ≡ true) × (length (now leftorder) ≡ 512) × (length (now rightorder) ≡ 512) ⌝ }
-    requires { ⌜ orderIn (sideOf side) (now left) (now leftorder) (now right) (now rightorder) ⌝ }
+    requires { ⌜
+        orderIn (sideOf side) (now left) (now leftorder) (now right) (now rightorder)
+        × Counted (now left) (now leftmany) (now right) (now rightmany)
+        ⌝ }
     ensures { λ r. ⌜
         SideFreed (givenTree (now (left .entry)) (now (leftlay .entry)))
         (givenTree (now (right .entry)) (now (rightlay .entry))) (size (now (left .entry))) (now (links .entry)) (sideOf side)
@@ -95,12 +107,55 @@ pub fn take_turn(
     ensures { λ _. ⌜
         orderIn (other (sideOf side)) (now (left .exit)) (now (leftorder .exit)) (now (right .exit)) (now (rightorder .exit))
         × (length (now (leftorder .exit)) ≡ 512) × (length (now (rightorder .exit)) ≡ 512)
+        × Counted (now (left .exit)) (now (leftmany .entry)) (now (right .exit)) (now (rightmany .entry))
         ⌝ }
 {
     if side == 1 {
-        return free_left(left, right, links, leftlay, leftorder, rightorder);
+        return free_left(
+            left,
+            right,
+            links,
+            leftlay,
+            leftmany,
+            rightmany,
+            leftorder,
+            rightorder,
+        );
     }
-    free_right(left, right, links, rightlay, leftorder, rightorder)
+    free_right(
+        left,
+        right,
+        links,
+        rightlay,
+        leftmany,
+        rightmany,
+        leftorder,
+        rightorder,
+    )
+}
+
+// Writes the order of a side.
+fn own_order(
+    left: &[u16; 1023],
+    right: &[u16; 1023],
+    leftmany: &[u16; 512],
+    rightmany: &[u16; 512],
+    leftorder: &mut [u16; 512],
+    rightorder: &mut [u16; 512],
+    side: u16,
+)
+    requires { ⌜ Good (now left) × Good (now right) × Counted (now left) (now leftmany) (now right) (now rightmany) ⌝ }
+    requires { ⌜ (length (now leftorder) ≡ 512) × (length (now rightorder) ≡ 512) ⌝ }
+    ensures { λ _. ⌜
+        orderIn (sideOf side) (now (left .entry)) (now (leftorder .exit)) (now (right .entry)) (now (rightorder .exit))
+        × (length (now (leftorder .exit)) ≡ 512) × (length (now (rightorder .exit)) ≡ 512)
+        ⌝ }
+{
+    if side == 1 {
+        leaf_order(left, leftmany, leftorder);
+        return;
+    }
+    leaf_order(right, rightmany, rightorder);
 }
 
 // Frees a side, in its table and in its layout; the other side stands. Answers the counts before and after, which are
@@ -123,12 +178,31 @@ pub fn free_side(
         (now (left .exit)) (now (leftlay .exit)) (now (right .exit)) (now (rightlay .exit))
         ⌝ }
 {
+    let mut leftmany = [0u16; 512];
+    count_leaves(left, &mut leftmany);
+    let mut rightmany = [0u16; 512];
+    count_leaves(right, &mut rightmany);
     let mut leftorder = [0u16; 512];
     let mut rightorder = [0u16; 512];
-    if side == 1 {
-        leaf_order(left, &mut leftorder);
-        return free_left(left, right, links, leftlay, &leftorder, &mut rightorder);
-    }
-    leaf_order(right, &mut rightorder);
-    free_right(left, right, links, rightlay, &mut leftorder, &rightorder)
+    own_order(
+        left,
+        right,
+        &leftmany,
+        &rightmany,
+        &mut leftorder,
+        &mut rightorder,
+        side,
+    );
+    take_turn(
+        left,
+        right,
+        links,
+        leftlay,
+        rightlay,
+        &leftmany,
+        &rightmany,
+        &mut leftorder,
+        &mut rightorder,
+        side,
+    )
 }

@@ -6,8 +6,9 @@ ghost use Rattle.tanglegram.specs.Sides.{sideOf};
 ghost use Rattle.tanglegram.specs.Table.{crossings};
 ghost use Rattle.trees.specs.Exchange.{givenTree};
 ghost use Rattle.trees.specs.Rows.{size};
-ghost use Rattle.turns.specs.Memory.{GoneOn, InMemory, layoutsFrom, orderIn, RunTaken, tableFrom};
+ghost use Rattle.turns.specs.Memory.{Counted, GoneOn, InMemory, layoutsFrom, orderIn, RunTaken, tableFrom};
 use crate::freeing_sides::take_turn;
+use trees::count_leaves;
 use trees::leaf_order;
 
 // What a run's turns come to: the first and the last count, the turns taken, and 1 if it settled or 0 if not.
@@ -25,6 +26,8 @@ fn go_on(
     links: &[u16; 512],
     leftlay: &mut [u8],
     rightlay: &mut [u8],
+    leftmany: &[u16; 512],
+    rightmany: &[u16; 512],
     leftorder: &mut [u16; 512],
     rightorder: &mut [u16; 512],
     first: u32,
@@ -34,7 +37,8 @@ fn go_on(
     requires { ⌜ InMemory (givenTree (now left) (now leftlay)) (givenTree (now right) (now rightlay)) (size (now left))
         (now links) (now left) (now leftlay) (now right) (now rightlay) ⌝ }
     requires { ⌜ (length (now leftorder) ≡ 512) × (length (now rightorder) ≡ 512)
-        × orderIn (sideOf 2) (now left) (now leftorder) (now right) (now rightorder) ⌝ }
+        × orderIn (sideOf 2) (now left) (now leftorder) (now right) (now rightorder)
+        × Counted (now left) (now leftmany) (now right) (now rightmany) ⌝ }
     requires { ⌜
         (count ≡ crossings
         (tableFrom (size (now left)) (now links) (now left) (now leftlay) (now right) (now rightlay))
@@ -59,6 +63,8 @@ fn go_on(
             links,
             leftlay,
             rightlay,
+            leftmany,
+            rightmany,
             leftorder,
             rightorder,
             side,
@@ -103,8 +109,12 @@ pub fn take_turns(
         (now (left .exit)) (now (leftlay .exit)) (now (right .exit)) (now (rightlay .exit))
         ⌝ }
 {
+    let mut leftmany = [0u16; 512];
+    count_leaves(left, &mut leftmany);
+    let mut rightmany = [0u16; 512];
+    count_leaves(right, &mut rightmany);
     let mut leftorder = [0u16; 512];
-    leaf_order(left, &mut leftorder);
+    leaf_order(left, &leftmany, &mut leftorder);
     let mut rightorder = [0u16; 512];
     let turn = take_turn(
         left,
@@ -112,6 +122,8 @@ pub fn take_turns(
         links,
         leftlay,
         rightlay,
+        &leftmany,
+        &rightmany,
         &mut leftorder,
         &mut rightorder,
         1,
@@ -122,6 +134,8 @@ pub fn take_turns(
         links,
         leftlay,
         rightlay,
+        &leftmany,
+        &rightmany,
         &mut leftorder,
         &mut rightorder,
         turn.before,

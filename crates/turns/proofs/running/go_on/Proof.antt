@@ -9,24 +9,25 @@ use Rattle.tanglegram.proofs.Sides.{side-most, other-side}
 use Rattle.tanglegram.proofs.Alternating.{Turning, turning-start, turning-gain, turning-stop, turning-end}
 use Rattle.trees.specs.Exchange.{givenTree}
 use Rattle.trees.specs.Rows.{size}
-use Rattle.turns.specs.Memory.{here, InMemory, SideFreed, layoutsFrom, orderIn}
+use Rattle.turns.specs.Memory.{Counted, here, InMemory, SideFreed, layoutsFrom, orderIn}
 use Rattle.turns.proofs.SideFreed.{memory-now, freed-then}
 use borrow.Author.Needs.{needs}
 use Rattle.turns.proofs.running.go_on.Statement.{statement}
 use Rattle.turns.proofs.running.go_on.Tie as tie
 
 abbrev Inv-loop : tie.InvT-loop
-Inv-loop left₀ right₀ links leftlay₀ rightlay₀ leftorder₀ rightorder₀ first count allowance last₀ turns₀ side₀ left right leftlay rightlay leftorder rightorder last turns side =
+Inv-loop left₀ right₀ links leftlay₀ rightlay₀ leftmany rightmany leftorder₀ rightorder₀ first count allowance last₀ turns₀ side₀ left right leftlay rightlay leftorder rightorder last turns side =
     let t = givenTree left₀ leftlay₀ in
     let u = givenTree right₀ rightlay₀ in
     let n = size left₀ in
     InMemory t u n links left leftlay right rightlay
-    × (orderIn (sideOf side) left leftorder right rightorder × (length leftorder ≡ 512) × (length rightorder ≡ 512))
+    × (orderIn (sideOf side) left leftorder right rightorder × (length leftorder ≡ 512) × (length rightorder ≡ 512)
+    × Counted left leftmany right rightmany)
     × Turning (crossings (here t u n links)) (free (here t u n links)) allowance (layoutsFrom leftlay₀ rightlay₀)
     (layoutsFrom leftlay rightlay) last turns side
 
 abbrev μ-loop : tie.MeasureT-loop
-μ-loop left₀ right₀ links leftlay₀ rightlay₀ leftorder₀ rightorder₀ first count allowance last₀ turns₀ side₀ left right leftlay rightlay leftorder rightorder last turns side =
+μ-loop left₀ right₀ links leftlay₀ rightlay₀ leftmany rightmany leftorder₀ rightorder₀ first count allowance last₀ turns₀ side₀ left right leftlay rightlay leftorder rightorder last turns side =
     allowance - turns
 
 -- ---- a turn taken
@@ -53,21 +54,25 @@ loop-holds : tie.Need-loop-holds Inv-loop μ-loop
 loop-holds c =
     let s = c .before .before in
     let p = s .pre .1 .0 in
-    (s .pre .0, (p .2, p .0, p .1), turning-start _ _ _ _ _ (s .pre .1 .1 .1) (s .pre .1 .1 .0))
+    (s .pre .0, (p .2, p .0, p .1, p .3), turning-start _ _ _ _ _ (s .pre .1 .1 .1) (s .pre .1 .1 .0))
 
 take-turn-requires : tie.Need-take-turn-requires Inv-loop μ-loop
 take-turn-requires c κs =
     let i = c .before .before .before .before .before .before .before .loop .inv in
-    (memory-now (i .0), ((i .2 .one, i .1 .1, i .1 .2), i .1 .0))
+    (memory-now (i .0), ((i .2 .one, i .1 .1, i .1 .2), (i .1 .0, i .1 .3)))
 
 add-turns : tie.Need-add-turns Inv-loop μ-loop
 add-turns c = search needs
 
 same-length : tie.Need-same-length Inv-loop μ-loop
-same-length c = search needs
+same-length c =
+    let v = c .before .before .before .before .before .before in
+    omega (arith, turn-freed v .holds .left-side .long, atLoop v .before .before .before .pre .0 .left-side .long)
 
 same-length-2 : tie.Need-same-length-2 Inv-loop μ-loop
-same-length-2 c = search needs
+same-length-2 c =
+    let v = c .before .before .before .before .before .before in
+    omega (arith, turn-freed v .holds .right-side .long, atLoop v .before .before .before .pre .0 .right-side .long)
 
 returns : tie.Need-returns Inv-loop μ-loop
 returns c =
