@@ -45,7 +45,9 @@ pub fn side_order(s: &[u8], n: u16, side: u16, out: &mut [u16; 512])
 {
     let mut tab = [0u16; 1023];
     fill_side(s, n, side, &mut tab);
-    trees::leaf_order(&tab, out);
+    let mut many = [0u16; 512];
+    trees::count_leaves(&tab, &mut many);
+    trees::leaf_order(&tab, &many, out);
 }
 
 // Writes both sides' present orders and the links to the arrays' first places.
