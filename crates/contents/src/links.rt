@@ -5,6 +5,7 @@ ghost use Prim.Native.Nat.{_≤_};
 ghost use lib.ListN.{length, take};
 ghost use Rattle.contents.specs.Marks.{allMarked, marked, marking};
 ghost use Rattle.format.specs.Refusals.{oneToOne};
+use format::fields::MOST_LEAVES;
 
 // Marks x, if it is from 1 to 512.
 fn mark(marks: &mut [u8; 512], x: u16)
@@ -13,7 +14,7 @@ fn mark(marks: &mut [u8; 512], x: u16)
     if x == 0 {
         return;
     }
-    if 512 < x {
+    if MOST_LEAVES < x {
         return;
     }
     let k = x as usize - 1;

@@ -9,6 +9,11 @@ ghost use Rattle.format.specs.Refusals.{contents, isLayout, oneToOne};
 use crate::links::one_to_one;
 use format::copying::copied;
 use format::copying::numbers_out;
+use format::fields::LEFT_ROWS_AT;
+use format::fields::left_layout_at;
+use format::fields::links_at;
+use format::fields::right_layout_at;
+use format::fields::right_rows_at;
 use format::refusal::LAYOUT;
 use format::refusal::LEFT_ROW;
 use format::refusal::LINKS;
@@ -82,19 +87,17 @@ pub fn contents_number(s: &[u8], n: u16) -> u16
     requires { ⌜ Sized (now s) n ⌝ }
     ensures { λ r. ⌜ r ≡ contents (partsOf (now (s .entry)) n) ⌝ }
 {
-    let m = n as usize - 1;
-    if bad_row_at(s, 8, n) != 0 {
+    if bad_row_at(s, LEFT_ROWS_AT, n) != 0 {
         return LEFT_ROW;
     }
-    if bad_row_at(s, 8 + 4 * m, n) != 0 {
+    if bad_row_at(s, right_rows_at(n), n) != 0 {
         return RIGHT_ROW;
     }
-    let links = 8 + 8 * m;
-    if !one_to_one_at(s, links, n) {
+    if !one_to_one_at(s, links_at(n), n) {
         return LINKS;
     }
-    let left = links + 2 * (n as usize);
-    let right = left + m;
+    let left = left_layout_at(n);
+    let right = right_layout_at(n);
     if !is_layout(&s[left..right]) {
         return LAYOUT;
     }

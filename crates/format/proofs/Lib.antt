@@ -4,4 +4,5 @@ pub mod Tests
 pub mod Heading
 pub mod Contents
 pub mod Acceptance
+pub mod Refused
 pub mod Meaning

@@ -3,7 +3,7 @@ use Prim.Native.Nat.{ℕ}
 use mathlib.Core.List.{List}
 use lib.Ieee.{Float, binary64, ofBits}
 use lib.ListN.{getD}
-use Rattle.record.specs.Calls.{refused}
+use Rattle.format.specs.Refused.{refused}
 use Rattle.unpacking.specs.declared.unpacking.Unpacked.{Unpacked}
 use Rattle.views.specs.declared.answers.Counted.{Counted}
 use Rattle.table.specs.declared.answers.Freed.{Freed}

@@ -3,7 +3,8 @@ ghost use mathlib.Core.List.{map};
 ghost use Rattle.gauge_calls.specs.Gauged.{freed, ran};
 ghost use Rattle.hands.specs.Calls.{Hands};
 ghost use Rattle.hands.specs.Refusals.{handOf};
-ghost use Rattle.record.specs.Calls.{SetsHold, refused};
+ghost use Rattle.format.specs.Refused.{refused};
+ghost use Rattle.record.specs.Calls.{SetsHold};
 ghost use Rattle.table.specs.Calls.{Frees, Runs};
 
 // The refusal's number, or 0.

@@ -2,7 +2,7 @@
 ghost use Rattle.gauge_calls.specs.Gauged.{unpacked};
 ghost use Rattle.packing.specs.Calls.{Packs};
 ghost use Rattle.unpacking.specs.Calls.{Unpacks};
-ghost use Rattle.record.specs.Calls.{refused};
+ghost use Rattle.format.specs.Refused.{refused};
 ghost use Rattle.format.specs.Fields.{given};
 
 // The refusal's number, or 0.

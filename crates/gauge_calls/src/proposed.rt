@@ -2,7 +2,7 @@
 ghost use mathlib.Core.Path.{_≡_};
 ghost use Rattle.gauge_calls.specs.Gauged.{firstOf};
 ghost use Rattle.proposals.specs.Calls.{BetterChecks, betterPart};
-ghost use Rattle.record.specs.Calls.{refused};
+ghost use Rattle.format.specs.Refused.{refused};
 
 // The first entry of the better order, or 0 where there is none.
 #[no_mangle]

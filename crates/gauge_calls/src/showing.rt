@@ -1,7 +1,8 @@
 // The calls that only show: check, order, count, pairs, entanglement.
 ghost use mathlib.Core.Path.{_≡_};
 ghost use Rattle.gauge_calls.specs.Gauged.{counted, ratioIn};
-ghost use Rattle.record.specs.Calls.{Checks, refused};
+ghost use Rattle.format.specs.Refused.{refused};
+ghost use Rattle.record.specs.Calls.{Checks};
 ghost use Rattle.views.specs.Calls.{Counts, Orders, entangled};
 use views::answers::Entangled;
 

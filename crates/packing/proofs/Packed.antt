@@ -9,14 +9,15 @@ use borrow.Author.Tests.{lt-ltb, le-ltb, eq-eqb, eqb-true, ltb-false}
 use lib.Dec.{eqb, ltb}
 use lib.ListN.{length, length-append}
 use lib.Seq.{sets}
+use Rattle.format.specs.declared.refusal.Refusal.{Refusal}
 use Rattle.format.specs.Fields.{split, rightAt, linksAt, leftLayoutAt, rightLayoutAt, lengthOf, Parts, given, opening, packed}
 use Rattle.format.specs.Refusals.{isHold, noSize, contents}
-use Rattle.record.specs.Calls.{refused}
+use Rattle.format.specs.Refused.{refused}
 use Rattle.format.proofs.Heading.{sized, unsized, none-first, not-no}
 use Rattle.trees.proofs.Stores.{sets-append}
 use Rattle.format.proofs.Stores.{sets-front, length-split}
 use Rattle.format.proofs.Acceptance.{else-first, else-second, none-both}
-use Rattle.record.proofs.Outcomes.{lent-refused, lent-accepted}
+use Rattle.format.proofs.Refused.{lent-refused, lent-accepted}
 use Rattle.packing.specs.Refusals.{shape, shapeOf, packing}
 use Rattle.packing.specs.Shapes.{Shaped}
 use Rattle.packing.specs.Calls.{Packs}
@@ -126,12 +127,13 @@ module _ (P : Parts) (out : List ℕ) where
       let t = none-both (contents P) _ (s .1) in
       (s .0, t .0, ltb-false _ _ (none-first (ltb (length out) (lengthOf (P .size))) 14 0 (omega arith) (t .1) .0))
 
-  pub pack-refused : {k : ℕ} → k ≡ packing P out → k ≢ 0 → Packs P out (record { number = k }) out
-  pack-refused {k} e h = record { answers = ap refused e; leaves = rw (← e) (lent-refused k (packed P) out h) }
+  pub pack-refused : {k : ℕ} {answer : Refusal} → k ≡ packing P out → k ≢ 0 → answer ≡ refused k → Packs P out answer out
+  pack-refused {k} e h r = record { answers = r ∙ ap refused e; leaves = rw (← e) (lent-refused k (packed P) out h) }
 
-  pub pack-accepted : {out′ : List ℕ} → 0 ≡ packing P out → out′ ≡ sets out 0 (packed P) → Packs P out (record { number = 0 }) out′
-  pack-accepted e w =
+  pub pack-accepted : {answer : Refusal} {out′ : List ℕ} → 0 ≡ packing P out → answer ≡ refused 0 → out′ ≡ sets out 0 (packed P) →
+      Packs P out answer out′
+  pack-accepted e r w =
       let z = packing-good (sym e) in
       let g = shape-good P (z .0) .1 in
       let h : length (packed P) ≤ length out = omega (arith, length-packed P g, z .2) in
-      record { answers = ap refused e; leaves = w ∙ sets-front out (packed P) h ∙ lent-accepted (packing P out) (packed P) out (sym e) }
+      record { answers = r ∙ ap refused e; leaves = w ∙ sets-front out (packed P) h ∙ lent-accepted (packing P out) (packed P) out (sym e) }

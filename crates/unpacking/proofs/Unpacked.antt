@@ -10,10 +10,10 @@ use lib.ListN.{length}
 use lib.Seq.{sets}
 use Rattle.format.specs.Fields.{holdOf, sizeOf, rightAt, linksAt, leftLayoutAt, rightLayoutAt, Parts, parts, partsOf}
 use Rattle.format.specs.Refusals.{refusal}
-use Rattle.record.specs.Calls.{refused, lent}
+use Rattle.format.specs.Refused.{refused, lent}
 use Rattle.format.proofs.Heading.{none-first}
 use Rattle.format.proofs.Acceptance.{else-first, else-second, none-both, accepted-sized}
-use Rattle.record.proofs.Outcomes.{lent-refused, lent-accepted}
+use Rattle.format.proofs.Refused.{lent-refused, lent-accepted}
 use Rattle.format.proofs.Stores.{sets-front, length-numbers, length-bytes}
 use Rattle.unpacking.specs.declared.unpacking.Unpacked.{Unpacked}
 use Rattle.unpacking.specs.Refusals.{room, unpacking}
