@@ -1,4 +1,5 @@
 pub mod Stores
+pub mod Cuts
 pub mod Tables
 pub mod Tests
 pub mod Heading

@@ -11,6 +11,11 @@ pub const MOST_LEAVES: u16 = 512;
 pub const MOST_HANDS: usize = 1024;
 pub const MOST_TURNS: u32 = 130818;
 
+// The places of an array with one for each leaf, and of a table of rows, in whose last place n stands.
+pub const LEAVES: usize = MOST_LEAVES as usize;
+pub const TABLE: usize = 2 * LEAVES - 1;
+pub const TABLE_SIZE_AT: usize = TABLE - 1;
+
 // The hold's letters: neither side, the left, the right, both.
 pub const NEITHER: u8 = b'N';
 pub const LEFT: u8 = b'L';
