@@ -28,7 +28,7 @@ pub struct Unpacked {
 }
 
 // What a refused unpacking answers.
-fn nothing(k: u16) -> Unpacked
+fn unpacked_none(k: u16) -> Unpacked
     ensures { λ r. ⌜ r ≡ unpackedNone k ⌝ }
 {
     Unpacked {
@@ -130,7 +130,7 @@ pub fn unpack(
 {
     let k = refusal_number(s);
     if k != 0 {
-        return nothing(k);
+        return unpacked_none(k);
     }
     let n = size_of(s);
     let room = room_number(
@@ -142,7 +142,7 @@ pub fn unpack(
         rightlayout.len(),
     );
     if room != 0 {
-        return nothing(room);
+        return unpacked_none(room);
     }
     write_parts(s, n, left, right, links, leftlayout, rightlayout);
     Unpacked {
