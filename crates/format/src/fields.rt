@@ -16,6 +16,9 @@ pub const LEAVES: usize = MOST_LEAVES as usize;
 pub const TABLE: usize = 2 * LEAVES - 1;
 pub const TABLE_SIZE_AT: usize = TABLE - 1;
 
+// The mark of a record.
+pub const MARK_TGP: [u8; 3] = [b'T', b'G', b'P'];
+
 // The hold's letters: neither side, the left, the right, both.
 pub const NEITHER: u8 = b'N';
 pub const LEFT: u8 = b'L';

@@ -12,10 +12,14 @@ use contents::bad_row_in;
 use contents::is_layout;
 use contents::one_to_one_in;
 use format::copying::bytes_in;
+use format::copying::number_in;
 use format::copying::numbers_in;
 use format::fields::HOLD_AT;
 use format::fields::LEFT_ROWS_AT;
+use format::fields::MARK_TGP;
 use format::fields::SIZE_AT;
+use format::fields::VERSION_1;
+use format::fields::VERSION_AT;
 use format::fields::left_layout_at;
 use format::fields::length_of;
 use format::fields::links_at;
@@ -118,14 +122,12 @@ fn write_opening(hold: u8, n: u16, out: &mut [u8])
     requires { ⌜ 8 ≤ length (now out) ⌝ }
     ensures { λ _. ⌜ now (out .exit) ≡ sets (now (out .entry)) 0 (opening hold n) ⌝ }
 {
-    out[0] = b'T';
-    out[1] = b'G';
-    out[2] = b'P';
-    out[3] = 0;
-    out[4] = 1;
+    out[0] = MARK_TGP[0];
+    out[1] = MARK_TGP[1];
+    out[2] = MARK_TGP[2];
+    number_in(VERSION_1, out, VERSION_AT);
     out[HOLD_AT] = hold;
-    out[6] = (n / 256) as u8;
-    out[7] = (n % 256) as u8;
+    number_in(n, out, SIZE_AT);
 }
 
 // Writes the record with these parts to the buffer's first places.

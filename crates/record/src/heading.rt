@@ -7,6 +7,7 @@ use format::copying::number;
 use format::fields::BOTH;
 use format::fields::LEFT;
 use format::fields::LEFT_ROWS_AT;
+use format::fields::MARK_TGP;
 use format::fields::MOST_LEAVES;
 use format::fields::NEITHER;
 use format::fields::RIGHT;
@@ -37,13 +38,13 @@ fn is_mark(s: &[u8]) -> bool
     requires { ⌜ 8 ≤ length (now s) ⌝ }
     ensures { λ r. ⌜ r ≡ isMark (now (s .entry)) ⌝ }
 {
-    if s[0] != b'T' {
+    if s[0] != MARK_TGP[0] {
         return false;
     }
-    if s[1] != b'G' {
+    if s[1] != MARK_TGP[1] {
         return false;
     }
-    s[2] == b'P'
+    s[2] == MARK_TGP[2]
 }
 
 // Whether n is 0 or above 512.
