@@ -79,8 +79,8 @@ struct tangle_hands {
 
 /* An entry of a hand list: the row of that side is turned over. */
 struct tangle_entry {
-    uint16_t side;
-    uint16_t row;
+    uint32_t side;
+    uint32_t row;
 };
 
 /* How many links cross. Reads the record.

@@ -8,12 +8,16 @@ use crate::copying::number;
 
 // The most leaves of a record, entries of a hand list, and turns of a run.
 pub const MOST_LEAVES: u16 = 512;
+
 pub const MOST_HANDS: usize = 1024;
+
 pub const MOST_TURNS: u32 = 130818;
 
 // The places of an array with one for each leaf, and of a table of rows, in whose last place n stands.
 pub const LEAVES: usize = MOST_LEAVES as usize;
+
 pub const TABLE: usize = 2 * LEAVES - 1;
+
 pub const TABLE_SIZE_AT: usize = TABLE - 1;
 
 // The mark of a record.
@@ -21,15 +25,22 @@ pub const MARK_TGP: [u8; 3] = [b'T', b'G', b'P'];
 
 // The hold's letters: neither side, the left, the right, both.
 pub const NEITHER: u8 = b'N';
+
 pub const LEFT: u8 = b'L';
+
 pub const RIGHT: u8 = b'R';
+
 pub const BOTH: u8 = b'B';
 
 // The version, and where it, the hold and n stand. The left rows begin after them, so a record is never shorter.
 pub const VERSION_1: u16 = 1;
+
 pub const VERSION_AT: usize = 3;
+
 pub const HOLD_AT: usize = 5;
+
 pub const SIZE_AT: usize = 6;
+
 pub const LEFT_ROWS_AT: usize = 8;
 
 // Where the other parts of a record over n leaves begin.
