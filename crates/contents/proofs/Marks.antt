@@ -63,7 +63,8 @@ marking-next xs x = go (eqb x 0) (ltb mostLeaves x) refl refl
         let q : i < mostLeaves = omega (arith, length-marked xs) in
         rw (mark-of xs i q, mark-of new i q, among-end (suc i) x xs, ne-eqb (suc i) x (h i q), or-false (among (suc i) xs)) refl)
 
-    at : (i : ℕ) → i < mostLeaves → 1 ≤ x → x ≤ mostLeaves → Dec (i ≡ pred x) → getD (set (marked xs) (pred x) 1) i 0 ≡ getD (marked new) i 0
+    at : (i : ℕ) → i < mostLeaves → 1 ≤ x → x ≤ mostLeaves → Dec (i ≡ pred x) →
+        getD (set (marked xs) (pred x) 1) i 0 ≡ getD (marked new) i 0
     at i p a b (yes e) =
         rw (
           e,

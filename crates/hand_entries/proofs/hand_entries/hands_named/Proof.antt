@@ -25,8 +25,8 @@ use contract.Monad.{Fun, fact}
 use contract.Fact.{factI}
 use contract.Running.{givenOf, tables, tablesOf}
 use types.Kit.{Given, Item, Sq, ‵, raw, _⊛_, ⋆, some, later, prop, frees, anyQ, atRet, runs, _$_, _∵_, !, qed, by, move, keep, drop}
-use types.Kit.{use0, use1, use2, use3, split, join, pick, rewrite, fsplit, fjoin, feqL, suffices, frame, await, updating, now as at-once, show}
-use types.Kit.{done}
+use types.Kit.{use0, use1, use2, use3, split, join, pick, rewrite, fsplit, fjoin, feqL, suffices, frame, await}
+use types.Kit.{updating, now as at-once, show, done}
 use types.Part.{agg, whole, sub, look-in}
 use types.Run.{look, store, init, forget, stop, hop, fld, from, load, lit, of-opd, bin, addr, and-then, no-more, assigns, assigns-last}
 use types.Run.{land, returns, returns-within, enter, alloc1, alloc0, params1, pass1, pass0, free1, free0, exec, first, branches}
@@ -480,7 +480,8 @@ module _ {M : Type 1} (𝓤 : URA M) (H : Heap 𝓤) (A : Atoms 𝓤) (W : Given
         first ! $ blocks ! $ loops ! 𝓣 Nearer Nearer-wf At (turns k e (is-none k passed)) ((0, bs), starts k e (is-none k passed)))
 
   walk : (𝓣 : Tables 𝓤 H) → Triple 𝓤 (𝓣 .C #test) (Test 𝓤 H A mem run) → Triple 𝓤 (𝓣 .C #turn) (Turn 𝓤 H A mem run) →
-      Triple 𝓤 (𝓣 .C #refuse) (Refuse 𝓤 H A mem run) → Room u8 m → Room R n → ent 𝓤 (onEntry 𝓤 H A hands.signature (κ, (κ′, tt)) (q, (q′, tt)) x at)
+      Triple 𝓤 (𝓣 .C #refuse) (Refuse 𝓤 H A mem run) → Room u8 m → Room R n →
+      ent 𝓤 (onEntry 𝓤 H A hands.signature (κ, (κ′, tt)) (q, (q′, tt)) x at)
       (WpFn 𝓤 H (𝓣 .C) (𝓣 .Λ) code.function (sliceVal (b, o) m ∷ sliceVal (b′, o′) n ∷ []) Post)
   walk 𝓣 known-test known-turn known-refuse gm gn =
       qed W ((‵ (flft κ q) ⊛ ‵ (flft κ′ q′) ⊛ ‵ ftrue) ∷ ‵ (owns (MutSlice (named 0) κ u8 ∷ ShrSlice (named 1) κ′ R ∷ []) x at) ∷ []) ∵
@@ -527,7 +528,8 @@ module _ {M : Type 1} (𝓤 : URA M) (H : Heap 𝓤) (A : Atoms 𝓤) (W : Given
       -- [the list's token; true; the record's; its token; the list's borrow; res; its fact; _15; …]
       keep ! (4 ∷ 0 ∷ 5 ∷ 6 ∷ 2 ∷ 3 ∷ 7 ∷ 8 ∷ 9 ∷ 10 ∷ 11 ∷ 12 ∷ 13 ∷ 14 ∷ 15 ∷ 16 ∷ 17 ∷ 18 ∷ 19 ∷ 20 ∷ 21 ∷ 22 ∷ 23 ∷ 24
       ∷ 25 ∷ 26 ∷ 27 ∷ 28 ∷ 29 ∷ 30 ∷ 31 ∷ 32 ∷ 33 ∷ 34 ∷ 35 ∷ 36 ∷ 37 ∷ 38 ∷ []) $
-      tests-on 𝓣 known-test known-turn known-refuse gm gn l₀ l₁ l₂ l₃ l₄ l₅ l₆ l₇ l₈ l₉ l₁₀ l₁₁ l₁₂ l₁₃ l₁₄ l₁₅ r e (is .1)))))))))))))))))))))))
+      tests-on 𝓣 known-test known-turn known-refuse gm gn l₀ l₁ l₂ l₃ l₄ l₅ l₆ l₇ l₈ l₉ l₁₀ l₁₁ l₁₂ l₁₃ l₁₄ l₁₅ r e
+      (is .1)))))))))))))))))))))))
 
 module _ {M : Type 1} (𝓤 : URA M) (H : Heap 𝓤) (A : Atoms 𝓤) (W : Given 𝓤 H A) (mem : Memory → SProp 𝓤) (run : Routine → Fun 𝓤)
     (𝓣 : Tables 𝓤 H) (known-test : Triple 𝓤 (𝓣 .C #test) (Test 𝓤 H A mem run))
