@@ -3,14 +3,15 @@ use Prim.Native.Nat.{ℕ, _+_, _-_, _*_, _≤_, _<_}
 use mathlib.Core.Path.{_≡_, refl, sym, ap, _∙_}
 use mathlib.Core.Logic.{_≢_}
 use mathlib.Core.Bool.{true, not}
-use mathlib.Core.List.{List, _++_}
+use mathlib.Core.List.{List, [], _∷_, _++_}
 use native.Mathlib.Omega.{arith}
 use borrow.Author.Tests.{lt-ltb, le-ltb, eq-eqb, eqb-true, ltb-false}
 use lib.Dec.{eqb, ltb}
-use lib.ListN.{length, length-append}
+use lib.ListN.{length, set, length-append}
 use lib.Seq.{sets}
 use Rattle.format.specs.declared.refusal.Refusal.{Refusal}
-use Rattle.format.specs.Fields.{split, rightAt, linksAt, leftLayoutAt, rightLayoutAt, lengthOf, Parts, given, opening, packed}
+use Rattle.format.specs.Letters.{letterT, letterG, letterP}
+use Rattle.format.specs.Fields.{versionAt, holdAt, sizeAt, split, rightAt, linksAt, leftLayoutAt, rightLayoutAt, lengthOf, Parts, given, opening, packed}
 use Rattle.format.specs.Refusals.{isHold, noSize, contents}
 use Rattle.format.specs.Refused.{refused}
 use Rattle.format.proofs.Heading.{sized, unsized, none-first, not-no}
@@ -78,6 +79,13 @@ length-packed P g = simp (length-append, length-split) (omega arith)
 -- a run of stores and a second one after it
 sets-then : (vs ws l : List ℕ) (at next : ℕ) → at + length vs ≡ next → sets l at (vs ++ ws) ≡ sets (sets l at vs) next ws
 sets-then vs ws l at next e = sets-append vs ws l at ∙ ap (λ k. sets (sets l at vs) k ws) e
+
+-- the first eight bytes, stored from the first place on
+pub opening-stored : (h n : ℕ) (l : List ℕ) {o o′ : List ℕ} →
+    o ≡ sets (sets l 0 (letterT ∷ letterG ∷ letterP ∷ [])) versionAt (split (1 ∷ [])) →
+    o′ ≡ sets (set o holdAt h) sizeAt (split (n ∷ [])) → o′ ≡ sets l 0 (opening h n)
+unfolding split
+opening-stored h n l e f = f ∙ ap (λ r. sets (set r holdAt h) sizeAt (split (n ∷ []))) e
 
 -- stored part after part, each where the one before it ends
 pub stored : (h n : ℕ) (left right links left-layout right-layout : List ℕ) → Shaped n left right links left-layout right-layout →

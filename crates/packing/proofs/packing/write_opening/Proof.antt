@@ -1,10 +1,9 @@
 -- `write_opening` writes the first eight bytes, each at its place.
-use mathlib.Core.List.{[], _∷_}
 use mathlib.Core.Path.{_≡_, ap, _∙_}
 use native.Mathlib.Omega.{arith}
-use lib.ListN.{length, set, length-set}
-use lib.Seq.{sets}
-use Rattle.format.specs.Fields.{split, holdAt, sizeAt}
+use lib.ListN.{length, length-set}
+use Rattle.format.specs.Fields.{split}
+use Rattle.packing.proofs.Packed.{opening-stored}
 use borrow.Author.Needs.{needs}
 use Rattle.packing.proofs.packing.write_opening.Statement.{statement}
 use Rattle.packing.proofs.packing.write_opening.Tie as tie
@@ -48,12 +47,11 @@ same-length c =
     ap length (p .number-in2 .ensures) ∙ simp length-set (first-length (p .before .before .before .before))
 
 returns : tie.Need-returns
-unfolding split
 returns c =
     let p = c .before .before in
     let q = p .before .before .before .before in
     let a = q .before .before .before .args in
-    p .number-in2 .ensures ∙ ap (λ o. sets (set o holdAt (a .hold)) sizeAt (split (a .n ∷ []))) (q .number-in .ensures)
+    opening-stored (a .hold) (a .n) (a .out .now) (q .number-in .ensures) (p .number-in2 .ensures)
 
 pub write-opening-spec : {M : Type 1} → statement M
 write-opening-spec =
