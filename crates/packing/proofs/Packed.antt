@@ -11,7 +11,8 @@ use lib.ListN.{length, set, length-append}
 use lib.Seq.{sets}
 use Rattle.format.specs.declared.refusal.Refusal.{Refusal}
 use Rattle.format.specs.Letters.{letterT, letterG, letterP}
-use Rattle.format.specs.Fields.{versionAt, holdAt, sizeAt, split, rightAt, linksAt, leftLayoutAt, rightLayoutAt, lengthOf, Parts, given, opening, packed}
+use Rattle.format.specs.Fields.{versionAt, holdAt, sizeAt}
+use Rattle.format.specs.Fields.{split, rightAt, linksAt, leftLayoutAt, rightLayoutAt, lengthOf, Parts, given, opening, packed}
 use Rattle.format.specs.Refusals.{isHold, noSize, contents}
 use Rattle.format.specs.Refused.{refused}
 use Rattle.format.proofs.Heading.{sized, unsized, none-first, not-no}
