@@ -110,8 +110,8 @@ struct tangle_unpack {
 
 /* An entry of a hand list: the row of that side is turned over. */
 struct tangle_entry {
-    uint16_t side;
-    uint16_t row;
+    uint32_t side;
+    uint32_t row;
 };
 
 /* ---- calls that show a record, and only read it */

@@ -15,7 +15,7 @@ _Static_assert(sizeof(struct tangle_entanglement) == 24, "four, and a double");
 _Static_assert(offsetof(struct tangle_entanglement, ratio) == 16, "the double is last");
 _Static_assert(sizeof(struct tangle_refusal) == 4, "one");
 _Static_assert(sizeof(struct tangle_better) == 12 && sizeof(struct tangle_unpack) == 12, "three");
-_Static_assert(sizeof(struct tangle_entry) == 4 && offsetof(struct tangle_entry, row) == 2, "two numbers of 16 bits");
+_Static_assert(sizeof(struct tangle_entry) == 8 && offsetof(struct tangle_entry, row) == 4, "two numbers of 32 bits");
 _Static_assert(TANGLE_ACCEPTED == 0 && TANGLE_SHORT == 1 && TANGLE_MARK == 2 && TANGLE_VERSION == 3, "01");
 _Static_assert(TANGLE_HOLD == 4 && TANGLE_SIZE == 5 && TANGLE_LENGTH == 6 && TANGLE_LEFT_ROW == 7, "01");
 _Static_assert(TANGLE_RIGHT_ROW == 8 && TANGLE_LINKS == 9 && TANGLE_LAYOUT == 10, "01");
@@ -286,7 +286,7 @@ static void hands(int line, size_t entries, uint32_t refusal)
         same_bytes(line, &kept);
 }
 
-static void hand(int line, uint16_t side, uint16_t row, uint32_t refusal)
+static void hand(int line, uint32_t side, uint32_t row, uint32_t refusal)
 {
     list[0] = (struct tangle_entry){side, row};
     hands(line, 1, refusal);
@@ -607,8 +607,12 @@ static void arguments_refused(void)
     free_side(__LINE__, 65535, 13, 0, 0);
     hand(__LINE__, 0, 0, 13); /* 13 before 15 before 11 */
     hand(__LINE__, 3, 1, 13);
+    hand(__LINE__, 65537, 1, 13); /* no number is cut down to a right one */
+    hand(__LINE__, 65538, 65537, 13);
     hand(__LINE__, TANGLE_LEFT, 0, 15);
     hand(__LINE__, TANGLE_RIGHT, 4, 15);
+    hand(__LINE__, TANGLE_LEFT, 65537, 15);
+    hand(__LINE__, TANGLE_LEFT, UINT32_MAX, 15);
     hand(__LINE__, TANGLE_LEFT, 1, 11);
     hand(__LINE__, TANGLE_RIGHT, 3, 11);
     hands(__LINE__, 0, 0);

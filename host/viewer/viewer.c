@@ -132,8 +132,8 @@ static int show_hands(struct record r, const struct tangle_entry *list, size_t e
     return 0;
 }
 
-/* Reads a number of 16 bits, digits only, up to a character; NULL where there is none. */
-static const char *number(const char *at, char end, uint16_t *x)
+/* Reads a number of 32 bits, digits only, up to a character; NULL where there is none. */
+static const char *number(const char *at, char end, uint32_t *x)
 {
     char *stop;
     unsigned long v;
@@ -142,9 +142,9 @@ static const char *number(const char *at, char end, uint16_t *x)
         return NULL;
     errno = 0;
     v = strtoul(at, &stop, 10);
-    if (errno != 0 || 65535 < v || *stop != end)
+    if (errno != 0 || UINT32_MAX < v || *stop != end)
         return NULL;
-    *x = (uint16_t)v;
+    *x = (uint32_t)v;
     return stop;
 }
 

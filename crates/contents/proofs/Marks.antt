@@ -14,18 +14,19 @@ use Rattle.tanglegram.specs.Lists.{range, bit}
 use Rattle.tanglegram.proofs.Lists.{range-each, mem-range}
 use Rattle.tree_rule.specs.Rule.{among}
 use Rattle.contents.specs.Marks.{marked, marking, allMarked}
+use Rattle.format.specs.Fields.{mostLeaves}
 use Rattle.format.specs.Refusals.{all, oneToOne}
 use Rattle.tanglegram.proofs.ListSums.{range-last}
 use Rattle.format.proofs.Stores.{length-map-range, getD-made}
 use Rattle.format.proofs.Tests.{all-ext, all-append, all-fails, each-all}
 
-pub length-marked : (xs : List ℕ) → length (marked xs) ≡ 512
+pub length-marked : (xs : List ℕ) → length (marked xs) ≡ mostLeaves
 unfolding marked
-length-marked xs = length-map-range (λ k. bit (among (suc k) xs)) 0 512
+length-marked xs = length-map-range (λ k. bit (among (suc k) xs)) 0 mostLeaves
 
-mark-of : (xs : List ℕ) (i : ℕ) → i < 512 → getD (marked xs) i 0 ≡ bit (among (suc i) xs)
+mark-of : (xs : List ℕ) (i : ℕ) → i < mostLeaves → getD (marked xs) i 0 ≡ bit (among (suc i) xs)
 unfolding marked
-mark-of xs i h = getD-made (λ k. bit (among (suc k) xs)) 512 i h
+mark-of xs i h = getD-made (λ k. bit (among (suc k) xs)) mostLeaves i h
 
 among-end : (v x : ℕ) (xs : List ℕ) → among v (xs ++ (x ∷ [])) ≡ (among v xs || eqb v x)
 unfolding among
@@ -49,20 +50,21 @@ or-false true = refl
 or-false false = refl
 
 pub marking-next : (xs : List ℕ) (x : ℕ) → marking (marked xs) x ≡ marked (xs ++ (x ∷ []))
-marking-next xs x = go (eqb x 0) (ltb 512 x) refl refl
+marking-next xs x = go (eqb x 0) (ltb mostLeaves x) refl refl
   where
     new : List ℕ
     new = xs ++ (x ∷ [])
 
     -- a number out of reach marks nothing
-    out : ((i : ℕ) → i < 512 → suc i ≡ x → ⊥) → marked xs ≡ marked new
+    out : ((i : ℕ) → i < mostLeaves → suc i ≡ x → ⊥) → marked xs ≡ marked new
     out h =
         ext-getD 0 (marked xs) (marked new) (length-marked xs ∙ sym (length-marked new))
         (λ i p.
-        let q : i < 512 = omega (arith, length-marked xs) in
+        let q : i < mostLeaves = omega (arith, length-marked xs) in
         rw (mark-of xs i q, mark-of new i q, among-end (suc i) x xs, ne-eqb (suc i) x (h i q), or-false (among (suc i) xs)) refl)
 
-    at : (i : ℕ) → i < 512 → 1 ≤ x → x ≤ 512 → Dec (i ≡ pred x) → getD (set (marked xs) (pred x) 1) i 0 ≡ getD (marked new) i 0
+    at : (i : ℕ) → i < mostLeaves → 1 ≤ x → x ≤ mostLeaves → Dec (i ≡ pred x) →
+        getD (set (marked xs) (pred x) 1) i 0 ≡ getD (marked new) i 0
     at i p a b (yes e) =
         rw (
           e,
@@ -82,19 +84,19 @@ marking-next xs x = go (eqb x 0) (ltb 512 x) refl refl
           or-false (among (suc i) xs),
         ) refl
 
-    go : (a b : Bool) → eqb x 0 ≡ a → ltb 512 x ≡ b → cond (a || b) (marked xs) (set (marked xs) (pred x) 1) ≡ marked new
+    go : (a b : Bool) → eqb x 0 ≡ a → ltb mostLeaves x ≡ b → cond (a || b) (marked xs) (set (marked xs) (pred x) 1) ≡ marked new
     go true b e f = out (λ i p z. omega (arith, eqb-true x 0 e))
-    go false true e f = out (λ i p z. omega (arith, ltb-true 512 x f))
+    go false true e f = out (λ i p z. omega (arith, ltb-true mostLeaves x f))
     go false false e f =
         let nonzero = eqb-false x 0 e in
-        let most = ltb-false 512 x f in
+        let most = ltb-false mostLeaves x f in
         ext-getD 0 (set (marked xs) (pred x) 1) (marked new)
         (length-set (marked xs) (pred x) 1 ∙ length-marked xs ∙ sym (length-marked new))
         (λ i p.
         at i (omega (arith, length-set (marked xs) (pred x) 1, length-marked xs)) (omega arith) (omega arith) (ℕ-discrete i (pred x)))
 
 -- 1 to n are marked exactly if each stands in the list
-pub all-marked-links : (xs : List ℕ) (n : ℕ) → n ≤ 512 → allMarked (marked xs) n ≡ oneToOne n xs
+pub all-marked-links : (xs : List ℕ) (n : ℕ) → n ≤ mostLeaves → allMarked (marked xs) n ≡ oneToOne n xs
 unfolding allMarked oneToOne
 all-marked-links xs n h =
     all-ext (λ c. not (eqb (getD (marked xs) (pred c) 0) 0)) (λ c. among c xs) (range 1 n)
@@ -106,7 +108,7 @@ all-marked-links xs n h =
     back false = refl
 
 -- nothing marked
-pub none-marked : replicate 512 0 ≡ marked []
+pub none-marked : replicate mostLeaves 0 ≡ marked []
 unfolding marked among range
 none-marked = refl
 

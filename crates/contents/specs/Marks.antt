@@ -6,16 +6,17 @@ use lib.Dec.{eqb, ltb}
 use lib.ListN.{getD, set}
 use Rattle.tanglegram.specs.Lists.{range, bit}
 use Rattle.tree_rule.specs.Rule.{among}
+use Rattle.format.specs.Fields.{mostLeaves}
 use Rattle.format.specs.Refusals.{all}
 
 -- The marks of the numbers that stand in a list.
 unfoldable pub marked : List ℕ → List ℕ
 unfolding among
-marked xs = map (λ k. bit (among (suc k) xs)) (range 0 512)
+marked xs = map (λ k. bit (among (suc k) xs)) (range 0 mostLeaves)
 
 -- The marks with x marked too, if it is from 1 to 512.
 abbrev pub marking : List ℕ → ℕ → List ℕ
-marking ms x = cond (eqb x 0 || ltb 512 x) ms (set ms (pred x) 1)
+marking ms x = cond (eqb x 0 || ltb mostLeaves x) ms (set ms (pred x) 1)
 
 -- 1 to n are marked.
 unfoldable pub allMarked : List ℕ → ℕ → Bool

@@ -4,16 +4,19 @@ ghost use mathlib.Core.List.{[]};
 ghost use Prim.Native.Nat.{_≤_};
 ghost use lib.ListN.{length, take};
 ghost use Rattle.contents.specs.Marks.{allMarked, marked, marking};
+ghost use Rattle.format.specs.Fields.{mostLeaves};
 ghost use Rattle.format.specs.Refusals.{oneToOne};
+use format::fields::LEAVES;
+use format::fields::MOST_LEAVES;
 
 // Marks x, if it is from 1 to 512.
-fn mark(marks: &mut [u8; 512], x: u16)
+fn mark(marks: &mut [u8; LEAVES], x: u16)
     ensures { λ _. ⌜ now (marks .exit) ≡ marking (now (marks .entry)) x ⌝ }
 {
     if x == 0 {
         return;
     }
-    if 512 < x {
+    if MOST_LEAVES < x {
         return;
     }
     let k = x as usize - 1;
@@ -21,8 +24,8 @@ fn mark(marks: &mut [u8; 512], x: u16)
 }
 
 // Marks each of the first n links, where nothing was marked.
-fn mark_links(links: &[u16; 512], n: usize, marks: &mut [u8; 512])
-    requires { ⌜ (n ≤ 512) × (n ≤ length (now links)) × (now marks ≡ marked []) ⌝ }
+fn mark_links(links: &[u16; LEAVES], n: usize, marks: &mut [u8; LEAVES])
+    requires { ⌜ (n ≤ mostLeaves) × (n ≤ length (now links)) × (now marks ≡ marked []) ⌝ }
     ensures { λ _. ⌜ now (marks .exit) ≡ marked (take n (now (links .entry))) ⌝ }
 {
     let mut i = 0;
@@ -33,8 +36,8 @@ fn mark_links(links: &[u16; 512], n: usize, marks: &mut [u8; 512])
 }
 
 // Whether 1 to n are marked.
-fn all_marked(marks: &[u8; 512], n: usize) -> bool
-    requires { ⌜ n ≤ 512 ⌝ }
+fn all_marked(marks: &[u8; LEAVES], n: usize) -> bool
+    requires { ⌜ n ≤ mostLeaves ⌝ }
     ensures { λ r. ⌜ r ≡ allMarked (now (marks .entry)) n ⌝ }
 {
     let mut i = 0;
@@ -48,11 +51,11 @@ fn all_marked(marks: &[u8; 512], n: usize) -> bool
 }
 
 // Whether the first n links are one-to-one on 1 to n.
-pub fn one_to_one(links: &[u16; 512], n: usize) -> bool
-    requires { ⌜ (n ≤ 512) × (n ≤ length (now links)) ⌝ }
+pub fn one_to_one(links: &[u16; LEAVES], n: usize) -> bool
+    requires { ⌜ (n ≤ mostLeaves) × (n ≤ length (now links)) ⌝ }
     ensures { λ r. ⌜ r ≡ oneToOne n (take n (now (links .entry))) ⌝ }
 {
-    let mut marks = [0u8; 512];
+    let mut marks = [0u8; LEAVES];
     mark_links(links, n, &mut marks);
     all_marked(&marks, n)
 }

@@ -8,7 +8,7 @@ use native.Mathlib.Omega.{arith}
 use borrow.Author.Tests.{lt-ltb, le-ltb, eq-eqb, ne-eqb, ltb-false, eqb-true, eqb-false, not-true, not-false}
 use lib.Dec.{eqb, ltb}
 use lib.ListN.{length}
-use Rattle.format.specs.Fields.{two, holdOf, sizeOf, lengthOf}
+use Rattle.format.specs.Fields.{two, mostLeaves, holdOf, sizeOf, lengthOf}
 use Rattle.format.specs.Refusals.{heading, isMark, isHold, noSize}
 
 module _ (s : List ℕ) where
@@ -55,21 +55,21 @@ pub record Good (s : List ℕ) : Type 0 where
   pub version : two s 3 ≡ 1
   pub hold : isHold (holdOf s) ≡ true
   pub some : 1 ≤ sizeOf s
-  pub most : sizeOf s ≤ 512
+  pub most : sizeOf s ≤ mostLeaves
   pub whole : length s ≡ lengthOf (sizeOf s)
 
-pub sized : (n : ℕ) → noSize n ≡ false → (1 ≤ n) × (n ≤ 512)
+pub sized : (n : ℕ) → noSize n ≡ false → (1 ≤ n) × (n ≤ mostLeaves)
 unfolding noSize
-sized n = go (eqb n 0) (ltb 512 n) refl refl
+sized n = go (eqb n 0) (ltb mostLeaves n) refl refl
   where
-    go : (a b : Bool) → eqb n 0 ≡ a → ltb 512 n ≡ b → (a || b) ≡ false → (1 ≤ n) × (n ≤ 512)
+    go : (a b : Bool) → eqb n 0 ≡ a → ltb mostLeaves n ≡ b → (a || b) ≡ false → (1 ≤ n) × (n ≤ mostLeaves)
     go true b e f h = absurd (true≢false h)
     go false true e f h = absurd (true≢false h)
-    go false false e f h = let z = eqb-false n 0 e in (omega arith, ltb-false 512 n f)
+    go false false e f h = let z = eqb-false n 0 e in (omega arith, ltb-false mostLeaves n f)
 
-pub unsized : (n : ℕ) → 1 ≤ n → n ≤ 512 → noSize n ≡ false
+pub unsized : (n : ℕ) → 1 ≤ n → n ≤ mostLeaves → noSize n ≡ false
 unfolding noSize
-unsized n p q = rw (ne-eqb n 0 (omega arith), le-ltb 512 n q) refl
+unsized n p q = rw (ne-eqb n 0 (omega arith), le-ltb mostLeaves n q) refl
 
 -- of a list of tests none of which holds, none holds
 pub none-first : (b : Bool) (k r : ℕ) → 1 ≤ k → cond b k r ≡ 0 → (b ≡ false) × (r ≡ 0)

@@ -77,14 +77,12 @@ length-split [] = refl
 length-split (x ∷ xs) = omega (arith, length-split xs)
 
 pub store-two : (xs l : List ℕ) (at i : ℕ) → i < length xs →
-    set (set (sets l at (split (take i xs))) (at + 2 * i) (getD xs i 0 / 256)) (at + 2 * i + 1) (getD xs i 0 % 256) ≡
-    sets l at (split (take (i + 1) xs))
-unfolding split
+    sets (sets l at (split (take i xs))) (at + 2 * i) (split (getD xs i 0 ∷ [])) ≡ sets l at (split (take (i + 1) xs))
 store-two xs l at i h =
     let le : i ≤ length xs = omega arith in
     let x = getD xs i 0 in
     let e : length (split (take i xs)) ≡ 2 * i = length-split (take i xs) ∙ ap (λ n. 2 * n) (length-take-le i xs le) in
     sym (ap (λ r. sets l at (split r)) (take-more xs i h)
     ∙ ap (sets l at) (split-append (take i xs) (x ∷ []))
-    ∙ sets-append (split (take i xs)) (x / 256 ∷ x % 256 ∷ []) l at
-    ∙ rw (e, add-one (at + 2 * i)) refl)
+    ∙ sets-append (split (take i xs)) (split (x ∷ [])) l at
+    ∙ rw e refl)

@@ -4,6 +4,7 @@ use mathlib.Core.Path.{_≡_}
 use mathlib.Core.List.{List, [], _∷_, _++_, map}
 use lib.ListN.{length, getD, take, drop}
 use Rattle.tanglegram.specs.Lists.{range}
+use Rattle.format.specs.Letters.{letterT, letterG, letterP}
 
 -- The number of two bytes at a place, the high byte first.
 abbrev pub two : List ℕ → ℕ → ℕ
@@ -21,19 +22,41 @@ unfoldable pub split : List ℕ → List ℕ
 split [] = []
 split (x ∷ xs) = x / 256 ∷ x % 256 ∷ split xs
 
--- Byte 5 is the hold; bytes 6 and 7 are n.
+-- The most leaves of a record, entries of a hand list, and turns of a run.
+abbrev pub mostLeaves : ℕ
+mostLeaves = 512
+
+abbrev pub mostHands : ℕ
+mostHands = 1024
+
+abbrev pub mostTurns : ℕ
+mostTurns = 130818
+
+-- Where the version, the hold and n stand, and where the left rows begin.
+abbrev pub versionAt : ℕ
+versionAt = 3
+
+abbrev pub holdAt : ℕ
+holdAt = 5
+
+abbrev pub sizeAt : ℕ
+sizeAt = 6
+
+abbrev pub leftAt : ℕ
+leftAt = 8
+
 abbrev pub holdOf : List ℕ → ℕ
-holdOf s = getD s 5 0
+holdOf s = getD s holdAt 0
 
 abbrev pub sizeOf : List ℕ → ℕ
-sizeOf s = two s 6
+sizeOf s = two s sizeAt
 
--- Where the parts of a record over n leaves begin, the left rows beginning at 8; the record's length.
+-- Where the other parts of a record over n leaves begin; the record's length.
 abbrev pub rightAt : ℕ → ℕ
-rightAt n = 8 + 4 * (n - 1)
+rightAt n = leftAt + 4 * (n - 1)
 
 abbrev pub linksAt : ℕ → ℕ
-linksAt n = 8 + 8 * (n - 1)
+linksAt n = leftAt + 8 * (n - 1)
 
 abbrev pub leftLayoutAt : ℕ → ℕ
 leftLayoutAt n = linksAt n + 2 * n
@@ -70,7 +93,7 @@ unfoldable pub partsOf : List ℕ → ℕ → Parts
 partsOf s n = record {
   hold = holdOf s;
   size = n;
-  left-rows = numbers s 8 (2 * (n - 1));
+  left-rows = numbers s leftAt (2 * (n - 1));
   right-rows = numbers s (rightAt n) (2 * (n - 1));
   links = numbers s (linksAt n) n;
   left-layout = bytes s (leftLayoutAt n) (n - 1);
@@ -82,7 +105,7 @@ parts s = partsOf s (sizeOf s)
 
 -- The bytes of a record with these parts: `TGP`, version 1, hold, n, then part after part.
 abbrev pub opening : ℕ → ℕ → List ℕ
-opening h n = 84 ∷ 71 ∷ 80 ∷ 0 ∷ 1 ∷ h ∷ n / 256 ∷ n % 256 ∷ []
+opening h n = letterT ∷ letterG ∷ letterP ∷ 0 ∷ 1 ∷ h ∷ n / 256 ∷ n % 256 ∷ []
 
 unfoldable pub packed : Parts → List ℕ
 unfolding split
@@ -90,9 +113,9 @@ packed P =
     opening (P .hold) (P .size)
     ++ (split (P .left-rows) ++ (split (P .right-rows) ++ (split (P .links) ++ (P .left-layout ++ P .right-layout))))
 
--- A record over n leaves, from 1 to 512, has the length that it should.
+-- A record over n leaves has the length that it should.
 pub record Sized (s : List ℕ) (n : ℕ) : Type 0 where
   pub says : sizeOf s ≡ n
   pub some : 1 ≤ n
-  pub most : n ≤ 512
+  pub most : n ≤ mostLeaves
   pub whole : length s ≡ lengthOf n

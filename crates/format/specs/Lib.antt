@@ -1,3 +1,5 @@
+pub mod Letters
 pub mod Fields
 pub mod Refusals
+pub mod Refused
 pub mod Meaning

@@ -7,7 +7,8 @@ use lib.ListN.{length, getD}
 use Rattle.tanglegram.specs.Lists.{range}
 use Rattle.trees.specs.Rows.{upper, lower}
 use Rattle.tree_rule.specs.Rule.{among, badRow}
-use Rattle.format.specs.Fields.{two, holdOf, sizeOf, lengthOf, Parts, parts}
+use Rattle.format.specs.Letters.{letterT, letterG, letterP, letterN, letterL, letterR, letterB}
+use Rattle.format.specs.Fields.{two, mostLeaves, versionAt, holdOf, sizeOf, lengthOf, Parts, parts}
 
 -- The number k if the test holds, else what comes after it; the first of two refusals.
 infixr 10 _when_else_
@@ -25,15 +26,15 @@ all p (x ∷ xs) = p x && all p xs
 
 -- Bytes 0 to 2 are `TGP`.
 unfoldable pub isMark : List ℕ → Bool
-isMark s = eqb (getD s 0 0) 84 && (eqb (getD s 1 0) 71 && eqb (getD s 2 0) 80)
+isMark s = eqb (getD s 0 0) letterT && (eqb (getD s 1 0) letterG && eqb (getD s 2 0) letterP)
 
 -- One of the four letters `N`, `L`, `R`, `B`.
 unfoldable pub isHold : ℕ → Bool
-isHold x = eqb x 78 || (eqb x 76 || (eqb x 82 || eqb x 66))
+isHold x = eqb x letterN || (eqb x letterL || (eqb x letterR || eqb x letterB))
 
 -- n is 0 or above 512.
 unfoldable pub noSize : ℕ → Bool
-noSize n = eqb n 0 || ltb 512 n
+noSize n = eqb n 0 || ltb mostLeaves n
 
 -- A row breaks the tree rule.
 unfoldable pub breaksRule : ℕ → List ℕ → Bool
@@ -67,7 +68,7 @@ unfolding isMark isHold noSize
 heading s =
     1 when ltb (length s) 8
     else 2 when not (isMark s)
-    else 3 when not (eqb (two s 3) 1)
+    else 3 when not (eqb (two s versionAt) 1)
     else 4 when not (isHold (holdOf s))
     else 5 when noSize (sizeOf s)
     else 6 when not (eqb (length s) (lengthOf (sizeOf s)))

@@ -1,4 +1,5 @@
 // Numbers and bytes copied between a record and lists. A number of two bytes has its high byte first.
+ghost use mathlib.Core.List.{[], _∷_};
 ghost use mathlib.Core.Path.{_≡_};
 ghost use Prim.Native.Nat.{_+_, _*_, _≤_, _<_};
 ghost use lib.ListN.{length};
@@ -11,6 +12,15 @@ pub fn number(s: &[u8], at: usize) -> u16
     ensures { λ r. ⌜ r ≡ two (now (s .entry)) at ⌝ }
 {
     (s[at] as u16) * 256 + (s[at + 1] as u16)
+}
+
+// Writes a number to out at place `at`.
+pub fn number_in(x: u16, out: &mut [u8], at: usize)
+    requires { ⌜ at + 1 < length (now out) ⌝ }
+    ensures { λ _. ⌜ now (out .exit) ≡ sets (now (out .entry)) at (split (x ∷ [])) ⌝ }
+{
+    out[at] = (x / 256) as u8;
+    out[at + 1] = (x % 256) as u8;
 }
 
 // Writes the m numbers from place `at` of s on to out's first places.
@@ -56,9 +66,7 @@ pub fn numbers_in(list: &[u16], out: &mut [u8], at: usize)
 {
     let mut i = 0;
     while i < list.len() {
-        let x = list[i];
-        out[at + 2 * i] = (x / 256) as u8;
-        out[at + 2 * i + 1] = (x % 256) as u8;
+        number_in(list[i], out, at + 2 * i);
         i += 1;
     }
 }

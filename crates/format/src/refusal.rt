@@ -1,8 +1,17 @@
-// Refusals: document 01's numbers, each with its name.
+// Refusals: what a call answers when it is refused, and document 01's numbers, each with its name.
+ghost use mathlib.Core.Path.{_≡_};
+ghost use Rattle.format.specs.Refused.{refused};
 
 // Why a call is refused; number 0 where it is not.
 pub struct Refusal {
     pub number: u16,
+}
+
+// The refusal with a number. Every refusal is made here.
+pub fn refused(number: u16) -> Refusal
+    ensures { λ r. ⌜ r ≡ refused number ⌝ }
+{
+    Refusal { number: number }
 }
 
 // fewer than 8 bytes

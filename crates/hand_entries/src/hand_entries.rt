@@ -8,40 +8,53 @@ ghost use Rattle.format.specs.Fields.{holdOf, sizeOf};
 ghost use Rattle.format.specs.Meaning.{layoutsOf, relaid};
 ghost use Rattle.format.specs.Refusals.{orElse};
 ghost use Rattle.hands.specs.Calls.{handed, Hands};
-ghost use Rattle.hand_entries.specs.Entries.{handIn};
+ghost use Rattle.hand_entries.specs.Entries.{handIn, narrow};
 ghost use Rattle.hands.specs.Refusals.{badHand, hand, handing};
 ghost use Rattle.standing.specs.Sides.{Given};
+use format::fields::hold_of;
+use format::fields::size_of;
 use format::refusal::Refusal;
+use format::refusal::refused;
 use hands::hand_number;
 use hands::list_number;
 use hands::turn_hand;
 
-// An entry: its side and its row.
+// An entry: its side and its row, in 32 bits, so that no number that a caller in C has is cut down to a right one.
 #[repr(C)]
 pub struct HandEntry {
-    pub side: u16,
-    pub row: u16,
+    pub side: u32,
+    pub row: u32,
+}
+
+// A number in 16 bits; for one that is too large 0, which is no side and no row either.
+fn narrowed(x: u32) -> u16
+    ensures { λ r. ⌜ r ≡ narrow x ⌝ }
+{
+    if 65535 < x {
+        return 0;
+    }
+    x as u16
 }
 
 // The refusal found so far, or that of one more entry.
-fn next_number(s: &[u8], k: u16, side: u16, row: u16) -> u16
+fn next_number(s: &[u8], k: u16, side: u32, row: u32) -> u16
     requires { ⌜ 8 ≤ length (now s) ⌝ }
     ensures { λ r. ⌜ r ≡ orElse k (badHand (holdOf (now (s .entry))) (sizeOf (now (s .entry))) (hand side row)) ⌝ }
 {
     if k != 0 {
         return k;
     }
-    hand_number(s[5], record::size_of(s), side, row)
+    hand_number(hold_of(s), size_of(s), narrowed(side), narrowed(row))
 }
 
 // Turns one row of an accepted record over.
-fn turn_entry(s: &mut [u8], side: u16, row: u16)
+fn turn_entry(s: &mut [u8], side: u32, row: u32)
     requires { ⌜ Given (now s) (sizeOf (now s)) × ((1 ≤ row) × (row < sizeOf (now s))) ⌝ }
     ensures { λ _. ⌜
         now (s .exit) ≡ relaid (now (s .entry)) (handed (layoutsOf (now (s .entry))) (hand side row ∷ []))
         ⌝ }
 {
-    turn_hand(s, record::size_of(s), side, row);
+    turn_hand(s, size_of(s), narrowed(side), narrowed(row));
 }
 
 // The refusal of a hand list, or 0.
@@ -67,7 +80,7 @@ pub fn hands_named(s: &mut [u8], list: &[HandEntry]) -> Refusal
 {
     let k = test_entries(s, list);
     if k != 0 {
-        return Refusal { number: k };
+        return refused(k);
     }
     let mut i = 0;
     while i < list.len() {
@@ -75,5 +88,5 @@ pub fn hands_named(s: &mut [u8], list: &[HandEntry]) -> Refusal
         turn_entry(s, e.side, e.row);
         i += 1;
     }
-    Refusal { number: 0 }
+    refused(0)
 }

@@ -12,9 +12,10 @@ use lib.Dec.{eqb, ltb}
 use lib.ListN.{length, getD, drop, length-map, drop-of-length-le}
 use lib.Seq.{drop-cons}
 use Rattle.tanglegram.proofs.Bools.{or-neither}
-use Rattle.format.specs.Fields.{holdOf, sizeOf}
+use Rattle.format.specs.declared.refusal.Refusal.{Refusal}
+use Rattle.format.specs.Fields.{mostHands, holdOf, sizeOf}
 use Rattle.format.specs.Refusals.{orElse, refusal}
-use Rattle.record.specs.Calls.{refused}
+use Rattle.format.specs.Refused.{refused}
 use Rattle.format.specs.Meaning.{layoutsOf, relaid}
 use Rattle.format.proofs.Acceptance.{else-first, else-second, none-both}
 use Rattle.format.proofs.Heading.{none-first, not-no}
@@ -120,25 +121,25 @@ module _ {A : Type 0} (f : A → Hand) (d : A) (list : List A) where
 
 -- where a list is accepted
 pub handing-accepted : (s : List ℕ) (hands : List Hand) → handing s hands ≡ 0 →
-    (length hands ≤ 1024) × (refusal s ≡ 0) × (badHands (holdOf s) (sizeOf s) hands ≡ 0)
+    (length hands ≤ mostHands) × (refusal s ≡ 0) × (badHands (holdOf s) (sizeOf s) hands ≡ 0)
 unfolding handing
 handing-accepted s hands e =
-    let t = none-first (ltb 1024 (length hands)) 17 _ (omega arith) e in
+    let t = none-first (ltb mostHands (length hands)) 17 _ (omega arith) e in
     let u = none-both (refusal s) (badHands (holdOf s) (sizeOf s) hands) (t .1) in
-    (ltb-false 1024 (length hands) (t .0), u .0, u .1)
+    (ltb-false mostHands (length hands) (t .0), u .0, u .1)
 
 module _ (s : List ℕ) (hands : List Hand) where
-  pub hands-refused : {k : ℕ} → k ≡ handing s hands → k ≢ 0 → Hands s hands (record { number = k }) s
-  hands-refused {k} e h = record { answers = ap refused e; leaves = rw (← e, ne-eqb k 0 h) refl }
+  pub hands-refused : {k : ℕ} {answer : Refusal} → k ≡ handing s hands → k ≢ 0 → answer ≡ refused k → Hands s hands answer s
+  hands-refused {k} e h r = record { answers = r ∙ ap refused e; leaves = rw (← e, ne-eqb k 0 h) refl }
 
-  pub hands-accepted : {after : List ℕ} → handing s hands ≡ 0 → after ≡ relaid s (handed (layoutsOf s) hands) →
-      Hands s hands (record { number = 0 }) after
-  hands-accepted a e = record { answers = ap refused (sym a); leaves = rw a e }
+  pub hands-accepted : {answer : Refusal} {after : List ℕ} → handing s hands ≡ 0 → answer ≡ refused 0 →
+      after ≡ relaid s (handed (layoutsOf s) hands) → Hands s hands answer after
+  hands-accepted a r e = record { answers = r ∙ ap refused (sym a); leaves = rw a e }
 
 -- the number of entries and the record are tested before the entries
 module _ (s : List ℕ) {A : Type 0} (f : A → Hand) (list : List A) where
   abbrev pub first : ℕ
-  first = cond (ltb 1024 (length list)) 17 (refusal s)
+  first = cond (ltb mostHands (length list)) 17 (refusal s)
 
   abbrev pub second : ℕ
   second = badHands (holdOf s) (sizeOf s) (map f list)
@@ -146,8 +147,8 @@ module _ (s : List ℕ) {A : Type 0} (f : A → Hand) (list : List A) where
   handing-parts : orElse first second ≡ handing s (map f list)
   unfolding handing
   handing-parts =
-      by (ltb 1024 (length list)) (refusal s) second
-      ∙ ap (λ m. cond (ltb 1024 m) 17 (orElse (refusal s) second)) (sym (length-map list f))
+      by (ltb mostHands (length list)) (refusal s) second
+      ∙ ap (λ m. cond (ltb mostHands m) 17 (orElse (refusal s) second)) (sym (length-map list f))
     where
       by : (b : Bool) (k r : ℕ) → orElse (cond b 17 k) r ≡ cond b 17 (orElse k r)
       by true k r = refl
@@ -155,22 +156,22 @@ module _ (s : List ℕ) {A : Type 0} (f : A → Hand) (list : List A) where
 
   module _ {k : ℕ} (e : k ≡ first) where
     pub first-accepted : k ≡ 0 → refusal s ≡ 0
-    first-accepted a = none-first (ltb 1024 (length list)) 17 (refusal s) (omega arith) (sym e ∙ a) .1
+    first-accepted a = none-first (ltb mostHands (length list)) 17 (refusal s) (omega arith) (sym e ∙ a) .1
 
     pub first-number : k ≢ 0 → k ≡ handing s (map f list)
     first-number h = e ∙ sym (else-first first second (λ z. h (e ∙ z))) ∙ handing-parts
 
-    pub first-refused : k ≢ 0 → Hands s (map f list) (record { number = k }) s
-    first-refused h = hands-refused s (map f list) (first-number h) h
+    pub first-refused : {answer : Refusal} → k ≢ 0 → answer ≡ refused k → Hands s (map f list) answer s
+    first-refused h r = hands-refused s (map f list) (first-number h) h r
 
     module _ (a : k ≡ 0) {b n : ℕ} (size : n ≡ sizeOf s) (found : b ≡ badHands (holdOf s) n (map f list)) where
       pub second-number : b ≡ handing s (map f list)
       second-number =
           found ∙ ap (λ m. badHands (holdOf s) m (map f list)) size ∙ sym (else-second first second (sym e ∙ a)) ∙ handing-parts
 
-      pub second-refused : b ≢ 0 → Hands s (map f list) (record { number = b }) s
-      second-refused h = hands-refused s (map f list) second-number h
+      pub second-refused : {answer : Refusal} → b ≢ 0 → answer ≡ refused b → Hands s (map f list) answer s
+      second-refused h r = hands-refused s (map f list) second-number h r
 
-      pub second-accepted : {after : List ℕ} → b ≡ 0 → after ≡ relaid s (handed (layoutsOf s) (map f list)) →
-          Hands s (map f list) (record { number = 0 }) after
-      second-accepted z w = hands-accepted s (map f list) (sym second-number ∙ z) w
+      pub second-accepted : {answer : Refusal} {after : List ℕ} → b ≡ 0 → answer ≡ refused 0 →
+          after ≡ relaid s (handed (layoutsOf s) (map f list)) → Hands s (map f list) answer after
+      second-accepted z r w = hands-accepted s (map f list) (sym second-number ∙ z) r w

@@ -6,7 +6,7 @@ use mathlib.Core.List.{List, [], _∷_}
 use Rattle.tanglegram.specs.Order.{turnRow}
 use Rattle.tanglegram.specs.Table.{Layouts, layout, put}
 use Rattle.format.specs.declared.refusal.Refusal.{Refusal}
-use Rattle.record.specs.Calls.{refused, accepted}
+use Rattle.format.specs.Refused.{refused, accepted}
 use Rattle.format.specs.Meaning.{layoutsOf, relaid}
 use Rattle.standing.specs.Sides.{sideOf}
 use Rattle.hands.specs.Refusals.{Hand, handing}

@@ -4,7 +4,7 @@ use mathlib.Core.Bool.{not, _||_}
 use mathlib.Core.List.{List, [], _∷_}
 use lib.Dec.{eqb, ltb}
 use lib.ListN.{length}
-use Rattle.format.specs.Fields.{holdOf, sizeOf}
+use Rattle.format.specs.Fields.{mostHands, holdOf, sizeOf}
 use Rattle.format.specs.Refusals.{_when_else_, orElse, refusal}
 use Rattle.standing.specs.Sides.{isSide, sideOf, holds}
 
@@ -36,5 +36,5 @@ badHands hold n (h ∷ hs) = let rest = badHands hold n hs in orElse (badHand ho
 unfoldable pub handing : List ℕ → List Hand → ℕ
 unfolding refusal badHands
 handing s hands =
-    17 when ltb 1024 (length hands)
+    17 when ltb mostHands (length hands)
     else orElse (refusal s) (badHands (holdOf s) (sizeOf s) hands)

@@ -4,17 +4,21 @@ ghost use mathlib.Core.List.{[], _∷_, map};
 ghost use mathlib.Core.Path.{_≡_};
 ghost use lib.Dec.{ltb};
 ghost use Prim.Native.Nat.{_/_, _<_, _%_, _≤_};
-ghost use Rattle.format.specs.Fields.{holdOf};
+ghost use Rattle.format.specs.Fields.{holdOf, mostHands};
 ghost use Rattle.format.specs.Refusals.{_when_else_, refusal};
 ghost use Rattle.format.specs.Meaning.{layoutsOf, relaid};
 ghost use Rattle.hands.specs.Calls.{handed, Hands};
 ghost use Rattle.hands.specs.Refusals.{badHand, badHands, hand, handOf};
 ghost use Rattle.standing.specs.Sides.{Given};
+use format::fields::MOST_HANDS;
+use format::fields::hold_of;
+use format::fields::size_of;
 use format::refusal::HANDS;
 use format::refusal::HELD;
 use format::refusal::ROW;
 use format::refusal::Refusal;
 use format::refusal::SIDE;
+use format::refusal::refused;
 use standing::is_held;
 use standing::is_side;
 use standing::layout_at;
@@ -41,9 +45,9 @@ pub fn hand_number(hold: u8, n: u16, side: u16, row: u16) -> u16
 
 // The refusal of a list of so many entries, or of the record, or 0.
 pub fn list_number(s: &[u8], entries: usize) -> u16
-    ensures { λ r. ⌜ r ≡ 17 when ltb 1024 entries else refusal (now (s .entry)) ⌝ }
+    ensures { λ r. ⌜ r ≡ 17 when ltb mostHands entries else refusal (now (s .entry)) ⌝ }
 {
-    if 1024 < entries {
+    if MOST_HANDS < entries {
         return HANDS;
     }
     record::refusal_number(s)
@@ -112,13 +116,13 @@ pub fn hands(s: &mut [u8], list: &[u32]) -> Refusal
 {
     let k = list_number(s, list.len());
     if k != 0 {
-        return Refusal { number: k };
+        return refused(k);
     }
-    let n = record::size_of(s);
-    let b = first_bad(s[5], n, list);
+    let n = size_of(s);
+    let b = first_bad(hold_of(s), n, list);
     if b != 0 {
-        return Refusal { number: b };
+        return refused(b);
     }
     turn_hands(s, n, list);
-    Refusal { number: 0 }
+    refused(0)
 }

@@ -3,20 +3,23 @@ use Prim.Native.Nat.{ℕ, _+_, _-_, _*_, _≤_, _<_}
 use mathlib.Core.Path.{_≡_, refl, sym, ap, _∙_}
 use mathlib.Core.Logic.{_≢_}
 use mathlib.Core.Bool.{true, not}
-use mathlib.Core.List.{List, _++_}
+use mathlib.Core.List.{List, [], _∷_, _++_}
 use native.Mathlib.Omega.{arith}
 use borrow.Author.Tests.{lt-ltb, le-ltb, eq-eqb, eqb-true, ltb-false}
 use lib.Dec.{eqb, ltb}
-use lib.ListN.{length, length-append}
+use lib.ListN.{length, set, length-append}
 use lib.Seq.{sets}
+use Rattle.format.specs.declared.refusal.Refusal.{Refusal}
+use Rattle.format.specs.Letters.{letterT, letterG, letterP}
+use Rattle.format.specs.Fields.{versionAt, holdAt, sizeAt}
 use Rattle.format.specs.Fields.{split, rightAt, linksAt, leftLayoutAt, rightLayoutAt, lengthOf, Parts, given, opening, packed}
 use Rattle.format.specs.Refusals.{isHold, noSize, contents}
-use Rattle.record.specs.Calls.{refused}
+use Rattle.format.specs.Refused.{refused}
 use Rattle.format.proofs.Heading.{sized, unsized, none-first, not-no}
 use Rattle.trees.proofs.Stores.{sets-append}
 use Rattle.format.proofs.Stores.{sets-front, length-split}
 use Rattle.format.proofs.Acceptance.{else-first, else-second, none-both}
-use Rattle.record.proofs.Outcomes.{lent-refused, lent-accepted}
+use Rattle.format.proofs.Refused.{lent-refused, lent-accepted}
 use Rattle.packing.specs.Refusals.{shape, shapeOf, packing}
 use Rattle.packing.specs.Shapes.{Shaped}
 use Rattle.packing.specs.Calls.{Packs}
@@ -78,6 +81,13 @@ length-packed P g = simp (length-append, length-split) (omega arith)
 sets-then : (vs ws l : List ℕ) (at next : ℕ) → at + length vs ≡ next → sets l at (vs ++ ws) ≡ sets (sets l at vs) next ws
 sets-then vs ws l at next e = sets-append vs ws l at ∙ ap (λ k. sets (sets l at vs) k ws) e
 
+-- the first eight bytes, stored from the first place on
+pub opening-stored : (h n : ℕ) (l : List ℕ) {o o′ : List ℕ} →
+    o ≡ sets (sets l 0 (letterT ∷ letterG ∷ letterP ∷ [])) versionAt (split (1 ∷ [])) →
+    o′ ≡ sets (set o holdAt h) sizeAt (split (n ∷ [])) → o′ ≡ sets l 0 (opening h n)
+unfolding split
+opening-stored h n l e f = f ∙ ap (λ r. sets (set r holdAt h) sizeAt (split (n ∷ []))) e
+
 -- stored part after part, each where the one before it ends
 pub stored : (h n : ℕ) (left right links left-layout right-layout : List ℕ) → Shaped n left right links left-layout right-layout →
     (l : List ℕ) {o₀ o₁ o₂ o₃ o₄ o₅ : List ℕ} → o₀ ≡ sets l 0 (opening h n) → o₁ ≡ sets o₀ 8 (split left) →
@@ -126,12 +136,13 @@ module _ (P : Parts) (out : List ℕ) where
       let t = none-both (contents P) _ (s .1) in
       (s .0, t .0, ltb-false _ _ (none-first (ltb (length out) (lengthOf (P .size))) 14 0 (omega arith) (t .1) .0))
 
-  pub pack-refused : {k : ℕ} → k ≡ packing P out → k ≢ 0 → Packs P out (record { number = k }) out
-  pack-refused {k} e h = record { answers = ap refused e; leaves = rw (← e) (lent-refused k (packed P) out h) }
+  pub pack-refused : {k : ℕ} {answer : Refusal} → k ≡ packing P out → k ≢ 0 → answer ≡ refused k → Packs P out answer out
+  pack-refused {k} e h r = record { answers = r ∙ ap refused e; leaves = rw (← e) (lent-refused k (packed P) out h) }
 
-  pub pack-accepted : {out′ : List ℕ} → 0 ≡ packing P out → out′ ≡ sets out 0 (packed P) → Packs P out (record { number = 0 }) out′
-  pack-accepted e w =
+  pub pack-accepted : {answer : Refusal} {out′ : List ℕ} → 0 ≡ packing P out → answer ≡ refused 0 → out′ ≡ sets out 0 (packed P) →
+      Packs P out answer out′
+  pack-accepted e r w =
       let z = packing-good (sym e) in
       let g = shape-good P (z .0) .1 in
       let h : length (packed P) ≤ length out = omega (arith, length-packed P g, z .2) in
-      record { answers = ap refused e; leaves = w ∙ sets-front out (packed P) h ∙ lent-accepted (packing P out) (packed P) out (sym e) }
+      record { answers = r ∙ ap refused e; leaves = w ∙ sets-front out (packed P) h ∙ lent-accepted (packing P out) (packed P) out (sym e) }

@@ -4,7 +4,7 @@ use mathlib.Core.List.{List}
 use Prim.Native.Nat.{ℕ}
 use Rattle.format.specs.declared.refusal.Refusal.{Refusal}
 use Rattle.format.specs.Fields.{Parts, packed}
-use Rattle.record.specs.Calls.{refused, lent}
+use Rattle.format.specs.Refused.{refused, lent}
 use Rattle.packing.specs.Refusals.{packing}
 
 pub record Packs (P : Parts) (out : List ℕ) (answer : Refusal) (out′ : List ℕ) : Type 0 where

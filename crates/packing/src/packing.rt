@@ -12,7 +12,19 @@ use contents::bad_row_in;
 use contents::is_layout;
 use contents::one_to_one_in;
 use format::copying::bytes_in;
+use format::copying::number_in;
 use format::copying::numbers_in;
+use format::fields::HOLD_AT;
+use format::fields::LEFT_ROWS_AT;
+use format::fields::MARK_TGP;
+use format::fields::SIZE_AT;
+use format::fields::VERSION_1;
+use format::fields::VERSION_AT;
+use format::fields::left_layout_at;
+use format::fields::length_of;
+use format::fields::links_at;
+use format::fields::right_layout_at;
+use format::fields::right_rows_at;
 use format::refusal::HOLD;
 use format::refusal::LAYOUT;
 use format::refusal::LEFT_ROW;
@@ -22,6 +34,7 @@ use format::refusal::RIGHT_ROW;
 use format::refusal::ROOM;
 use format::refusal::Refusal;
 use format::refusal::SIZE;
+use format::refusal::refused;
 use record::heading::is_hold;
 use record::heading::no_size;
 
@@ -109,14 +122,12 @@ fn write_opening(hold: u8, n: u16, out: &mut [u8])
     requires { ⌜ 8 ≤ length (now out) ⌝ }
     ensures { λ _. ⌜ now (out .exit) ≡ sets (now (out .entry)) 0 (opening hold n) ⌝ }
 {
-    out[0] = b'T';
-    out[1] = b'G';
-    out[2] = b'P';
-    out[3] = 0;
-    out[4] = 1;
-    out[5] = hold;
-    out[6] = (n / 256) as u8;
-    out[7] = (n % 256) as u8;
+    out[0] = MARK_TGP[0];
+    out[1] = MARK_TGP[1];
+    out[2] = MARK_TGP[2];
+    number_in(VERSION_1, out, VERSION_AT);
+    out[HOLD_AT] = hold;
+    number_in(n, out, SIZE_AT);
 }
 
 // Writes the record with these parts to the buffer's first places.
@@ -148,15 +159,12 @@ fn write_record(
         (now (rightlayout .entry))))
         ⌝ }
 {
-    let k = n as usize;
-    let m = k - 1;
-    let at = 8 + 8 * m + 2 * k;
     write_opening(hold, n, out);
-    numbers_in(left, out, 8);
-    numbers_in(right, out, 8 + 4 * m);
-    numbers_in(links, out, 8 + 8 * m);
-    bytes_in(leftlayout, out, at);
-    bytes_in(rightlayout, out, at + m);
+    numbers_in(left, out, LEFT_ROWS_AT);
+    numbers_in(right, out, right_rows_at(n));
+    numbers_in(links, out, links_at(n));
+    bytes_in(leftlayout, out, left_layout_at(n));
+    bytes_in(rightlayout, out, right_layout_at(n));
 }
 
 // Packs any parts: writes the record that they make to the buffer's first 12n-2 places, if the parts are good and
@@ -196,15 +204,15 @@ pub fn pack(
         rightlayout.len(),
     );
     if k != 0 {
-        return Refusal { number: k };
+        return refused(k);
     }
     let l = lists_number(n, left, right, links, leftlayout, rightlayout);
     if l != 0 {
-        return Refusal { number: l };
+        return refused(l);
     }
-    if out.len() < 12 * (n as usize) - 2 {
-        return Refusal { number: ROOM };
+    if out.len() < length_of(n) {
+        return refused(ROOM);
     }
     write_record(hold, n, left, right, links, leftlayout, rightlayout, out);
-    Refusal { number: 0 }
+    refused(0)
 }

@@ -15,7 +15,7 @@ use Rattle.tanglegram.proofs.Run.{stays-good}
 use Rattle.tanglegram.proofs.Table.{Fits, frees, run-table}
 use Rattle.format.specs.Fields.{holdOf, sizeOf, leftLayoutAt}
 use Rattle.format.specs.Refusals.{refusal}
-use Rattle.record.specs.Calls.{accepted}
+use Rattle.format.specs.Refused.{accepted}
 use Rattle.format.specs.Meaning.{tableOf, layoutsOf, relaid}
 use Rattle.format.proofs.Acceptance.{accepted-sized}
 use Rattle.format.proofs.Meaning.{accepted-fair, accepted-fits, fits-long, length-relaid, layouts-of-relaid}

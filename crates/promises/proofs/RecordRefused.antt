@@ -9,7 +9,7 @@ use Rattle.record.specs.declared.reading.Reading.the-variants.{Accepted, Refuse
 use Rattle.format.specs.Fields.{holdOf, sizeOf, parts, packed}
 use Rattle.format.specs.Refusals.{holding}
 use Rattle.record.specs.Calls.{numberOf, holdIn, sizeIn}
-use Rattle.record.proofs.Outcomes.{lent-refused, zero-refused}
+use Rattle.format.proofs.Refused.{lent-refused, zero-refused}
 use Rattle.unpacking.specs.Refusals.{unpacking}
 use Rattle.packing.specs.Refusals.{packing}
 use Rattle.promises.specs.RecordOutcomes.{UnpackOutcome, UnpacksTo}

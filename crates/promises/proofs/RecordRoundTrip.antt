@@ -10,10 +10,10 @@ use Rattle.format.specs.declared.refusal.Refusal.{Refusal}
 use Rattle.format.specs.Fields.{holdOf, sizeOf, rightAt, linksAt, leftLayoutAt, rightLayoutAt, lengthOf, Parts, given, parts, partsOf}
 use Rattle.format.specs.Fields.{packed}
 use Rattle.format.specs.Refusals.{refusal}
-use Rattle.record.specs.Calls.{lent}
+use Rattle.format.specs.Refused.{lent}
 use Rattle.format.proofs.Stores.{length-numbers, length-bytes}
 use Rattle.format.proofs.Acceptance.{accepted-sized}
-use Rattle.record.proofs.Outcomes.{lent-accepted}
+use Rattle.format.proofs.Refused.{lent-accepted}
 use Rattle.unpacking.specs.Refusals.{room, unpacking}
 use Rattle.packing.specs.Refusals.{packing}
 use Rattle.packing.specs.Calls.{Packs}

@@ -9,7 +9,7 @@ use borrow.Author.Tests.{eq-eqb}
 use lib.ListN.{length, getD, set, length-set}
 use lib.Seq.{getD-set-same, getD-set-other}
 use Rattle.format.specs.Refusals.{holding}
-use Rattle.record.specs.Calls.{accepted}
+use Rattle.format.specs.Refused.{accepted}
 use Rattle.format.proofs.Acceptance.{accepted-heading, holding-accepted}
 use Rattle.promises.specs.SetHoldOnly.{SetHoldPromise}
 

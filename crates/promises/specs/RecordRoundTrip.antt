@@ -6,7 +6,7 @@ use lib.ListN.{length, take}
 use Rattle.tanglegram.specs.Lists.{Each}
 use Rattle.format.specs.declared.refusal.Refusal.{Refusal}
 use Rattle.format.specs.Fields.{lengthOf, Parts, given}
-use Rattle.record.specs.Calls.{refused}
+use Rattle.format.specs.Refused.{refused}
 use Rattle.packing.specs.Calls.{Packs}
 use Rattle.promises.specs.RecordOutcomes.{UnpackOutcome, UnpacksTo}
 

@@ -10,7 +10,7 @@ use lib.Dec.{eqb, lit≤}
 use lib.ListN.{length, take}
 use Rattle.format.specs.Fields.{sizeOf}
 use Rattle.format.specs.Refusals.{refusal}
-use Rattle.record.specs.Calls.{refused, accepted, orZero}
+use Rattle.format.specs.Refused.{refused, accepted, orZero}
 use Rattle.format.specs.Meaning.{tableOf}
 use Rattle.format.proofs.Acceptance.{else-first, none-both}
 use Rattle.format.proofs.Heading.{none-first, not-no}

@@ -9,7 +9,7 @@ use Rattle.tanglegram.specs.Crossings.{count}
 use Rattle.tanglegram.specs.Run.{Side, left, right}
 use Rattle.format.specs.declared.refusal.Refusal.{Refusal}
 use Rattle.format.specs.Fields.{sizeOf, parts}
-use Rattle.record.specs.Calls.{refused, accepted, orZero}
+use Rattle.format.specs.Refused.{refused, accepted, orZero}
 use Rattle.standing.specs.Sides.{sideOf}
 use Rattle.proposals.specs.declared.answers.Compared.{Compared}
 use Rattle.proposals.specs.Refusals.{comparing}

@@ -2,29 +2,14 @@
 use Prim.Native.Nat.{ℕ}
 use mathlib.Core.Path.{_≡_}
 use mathlib.Core.Bool.{Bool, true, false, cond}
-use mathlib.Core.List.{List, _++_}
-use lib.Dec.{eqb}
-use lib.ListN.{length, drop, set}
+use mathlib.Core.List.{List}
+use lib.ListN.{set}
 use Rattle.format.specs.declared.refusal.Refusal.{Refusal}
 use Rattle.record.specs.declared.reading.Reading.{Reading}
 use Rattle.record.specs.declared.reading.Reading.the-variants.{Accepted, Refused}
-use Rattle.format.specs.Fields.{holdOf, sizeOf}
+use Rattle.format.specs.Fields.{holdAt, holdOf, sizeOf}
 use Rattle.format.specs.Refusals.{refusal, holding}
-
--- A refusal by its number, 0 for none; whether a call with that number is accepted.
-abbrev pub refused : ℕ → Refusal
-refused k = record { number = k }
-
-abbrev pub accepted : ℕ → Bool
-accepted k = eqb k 0
-
--- What a lent buffer holds afterwards: if accepted, the part in its first places and beyond as found; if refused, as found.
-abbrev pub lent : ℕ → List ℕ → List ℕ → List ℕ
-lent k part found = cond (accepted k) (part ++ drop (length part) found) found
-
--- A number that a refused call answers by zero.
-abbrev pub orZero : ℕ → ℕ → ℕ
-orZero k x = cond (accepted k) x 0
+use Rattle.format.specs.Refused.{refused, accepted}
 
 -- ---- checking and reading
 
@@ -59,4 +44,4 @@ pub record Reads (s : List ℕ) (answer : Reading) : Type 0 where
 
 pub record SetsHold (s : List ℕ) (letter : ℕ) (answer : Refusal) (s′ : List ℕ) : Type 0 where
   pub answers : answer ≡ refused (holding s letter)
-  pub leaves : s′ ≡ cond (accepted (holding s letter)) (set s 5 letter) s
+  pub leaves : s′ ≡ cond (accepted (holding s letter)) (set s holdAt letter) s

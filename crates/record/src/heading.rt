@@ -4,6 +4,18 @@ ghost use Prim.Native.Nat.{_≤_};
 ghost use lib.ListN.{length};
 ghost use Rattle.format.specs.Refusals.{heading, isHold, isMark, noSize};
 use format::copying::number;
+use format::fields::BOTH;
+use format::fields::LEFT;
+use format::fields::LEFT_ROWS_AT;
+use format::fields::MARK_TGP;
+use format::fields::MOST_LEAVES;
+use format::fields::NEITHER;
+use format::fields::RIGHT;
+use format::fields::VERSION_1;
+use format::fields::VERSION_AT;
+use format::fields::hold_of;
+use format::fields::length_of;
+use format::fields::size_of;
 use format::refusal::HOLD;
 use format::refusal::LENGTH;
 use format::refusal::MARK;
@@ -16,7 +28,7 @@ pub fn is_hold(x: u8) -> bool
     ensures { λ r. ⌜ r ≡ isHold x ⌝ }
 {
     match x {
-        b'N' | b'L' | b'R' | b'B' => true,
+        NEITHER | LEFT | RIGHT | BOTH => true,
         _ => false,
     }
 }
@@ -26,13 +38,13 @@ fn is_mark(s: &[u8]) -> bool
     requires { ⌜ 8 ≤ length (now s) ⌝ }
     ensures { λ r. ⌜ r ≡ isMark (now (s .entry)) ⌝ }
 {
-    if s[0] != b'T' {
+    if s[0] != MARK_TGP[0] {
         return false;
     }
-    if s[1] != b'G' {
+    if s[1] != MARK_TGP[1] {
         return false;
     }
-    s[2] == b'P'
+    s[2] == MARK_TGP[2]
 }
 
 // Whether n is 0 or above 512.
@@ -42,30 +54,30 @@ pub fn no_size(n: u16) -> bool
     if n == 0 {
         return true;
     }
-    512 < n
+    MOST_LEAVES < n
 }
 
 // 1 to 6 for the first eight bytes and the length, or 0.
 pub fn heading_number(s: &[u8]) -> u16
     ensures { λ r. ⌜ r ≡ heading (now (s .entry)) ⌝ }
 {
-    if s.len() < 8 {
+    if s.len() < LEFT_ROWS_AT {
         return SHORT;
     }
     if !is_mark(s) {
         return MARK;
     }
-    if number(s, 3) != 1 {
+    if number(s, VERSION_AT) != VERSION_1 {
         return VERSION;
     }
-    if !is_hold(s[5]) {
+    if !is_hold(hold_of(s)) {
         return HOLD;
     }
-    let n = number(s, 6);
+    let n = size_of(s);
     if no_size(n) {
         return SIZE;
     }
-    if s.len() != 12 * (n as usize) - 2 {
+    if s.len() != length_of(n) {
         return LENGTH;
     }
     0

@@ -1,11 +1,13 @@
-// Setting the hold: one letter, byte 5, and nothing else.
+// Setting the hold: one letter in its place, and nothing else.
 ghost use Rattle.record.specs.Calls.{SetsHold};
 ghost use mathlib.Core.Path.{_≡_};
 ghost use Rattle.format.specs.Refusals.{holding};
 use crate::heading::is_hold;
 use crate::reading::refusal_number;
+use format::fields::HOLD_AT;
 use format::refusal::HOLD;
 use format::refusal::Refusal;
+use format::refusal::refused;
 
 // Setting the hold's refusal, or 0: the letter's comes before the record's.
 fn holding_number(s: &[u8], letter: u8) -> u16
@@ -17,14 +19,14 @@ fn holding_number(s: &[u8], letter: u8) -> u16
     refusal_number(s)
 }
 
-// Puts the letter into byte 5 of an accepted record; else it answers the refusal and changes nothing.
+// Puts the letter into an accepted record; else it answers the refusal and changes nothing.
 pub fn set_hold(s: &mut [u8], letter: u8) -> Refusal
     ensures { λ r. ⌜ SetsHold (now (s .entry)) letter r (now (s .exit)) ⌝ }
 {
     let k = holding_number(s, letter);
     if k != 0 {
-        return Refusal { number: k };
+        return refused(k);
     }
-    s[5] = letter;
-    Refusal { number: 0 }
+    s[HOLD_AT] = letter;
+    refused(0)
 }

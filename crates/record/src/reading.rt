@@ -1,14 +1,13 @@
 // Reading a record: its refusal, or what its heading says.
 ghost use mathlib.Core.Path.{_≡_};
-ghost use Prim.Native.Nat.{_≤_};
-ghost use lib.ListN.{length};
 ghost use Rattle.record.specs.Calls.{Checks, Reads};
-ghost use Rattle.format.specs.Fields.{sizeOf};
 ghost use Rattle.format.specs.Refusals.{refusal};
 use crate::heading::heading_number;
 use contents::contents_number;
-use format::copying::number;
+use format::fields::hold_of;
+use format::fields::size_of;
 use format::refusal::Refusal;
+use format::refusal::refused;
 
 // What an accepted record's heading says.
 pub struct Header {
@@ -30,24 +29,14 @@ pub fn refusal_number(s: &[u8]) -> u16
     if k != 0 {
         return k;
     }
-    contents_number(s, number(s, 6))
-}
-
-// What an accepted record says n is.
-pub fn size_of(s: &[u8]) -> u16
-    requires { ⌜ 8 ≤ length (now s) ⌝ }
-    ensures { λ r. ⌜ r ≡ sizeOf (now (s .entry)) ⌝ }
-{
-    number(s, 6)
+    contents_number(s, size_of(s))
 }
 
 // Checks any bytes: the refusal of the record that they should be, with number 0 where there is none.
 pub fn check(s: &[u8]) -> Refusal
     ensures { λ r. ⌜ Checks (now (s .entry)) r ⌝ }
 {
-    Refusal {
-        number: refusal_number(s),
-    }
+    refused(refusal_number(s))
 }
 
 // Reads any bytes: the hold and n of an accepted record, or the refusal.
@@ -56,10 +45,10 @@ pub fn read(s: &[u8]) -> Reading
 {
     let k = refusal_number(s);
     if k != 0 {
-        return Reading::Refused(Refusal { number: k });
+        return Reading::Refused(refused(k));
     }
     Reading::Accepted(Header {
-        hold: s[5],
-        n: number(s, 6),
+        hold: hold_of(s),
+        n: size_of(s),
     })
 }

@@ -6,7 +6,7 @@ use mathlib.Core.List.{List}
 use Rattle.tanglegram.specs.Lists.{bit}
 use Rattle.tanglegram.specs.Run.{Side, End, run}
 use Rattle.tanglegram.specs.Table.{Layouts, crossings, free}
-use Rattle.record.specs.Calls.{refused, accepted, orZero}
+use Rattle.format.specs.Refused.{refused, accepted, orZero}
 use Rattle.format.specs.Meaning.{tableOf, layoutsOf, relaid}
 use Rattle.standing.specs.Sides.{sideOf}
 use Rattle.standing.specs.Shown.{shownCount}

@@ -10,7 +10,8 @@ use lib.Dec.{ltb}
 use Rattle.format.specs.declared.refusal.Refusal.{Refusal}
 use Rattle.format.specs.Fields.{Parts, given, packed}
 use Rattle.format.specs.Refusals.{isHold, noSize, holding}
-use Rattle.record.specs.Calls.{refused, SetsHold}
+use Rattle.record.specs.Calls.{SetsHold}
+use Rattle.format.specs.Refused.{refused}
 use Rattle.record.proofs.Outcomes.{lent-refused}
 use Rattle.packing.specs.Refusals.{shape, packing}
 use Rattle.packing.specs.Calls.{Packs}

@@ -8,12 +8,13 @@ use borrow.Author.Tests.{ne-eqb, le-ltb, ltb-false}
 use lib.Dec.{ltb}
 use lib.ListN.{length}
 use lib.Seq.{sets}
+use Rattle.format.specs.declared.refusal.Refusal.{Refusal}
 use Rattle.format.specs.Fields.{holdOf, sizeOf, rightAt, linksAt, leftLayoutAt, rightLayoutAt, Parts, parts, partsOf}
 use Rattle.format.specs.Refusals.{refusal}
-use Rattle.record.specs.Calls.{refused, lent}
+use Rattle.format.specs.Refused.{refused, lent}
 use Rattle.format.proofs.Heading.{none-first}
 use Rattle.format.proofs.Acceptance.{else-first, else-second, none-both, accepted-sized}
-use Rattle.record.proofs.Outcomes.{lent-refused, lent-accepted}
+use Rattle.format.proofs.Refused.{lent-refused, lent-accepted}
 use Rattle.format.proofs.Stores.{sets-front, length-numbers, length-bytes}
 use Rattle.unpacking.specs.declared.unpacking.Unpacked.{Unpacked}
 use Rattle.unpacking.specs.Refusals.{room, unpacking}
@@ -90,21 +91,22 @@ module _ (s left right links left-layout right-layout : List ℕ) where
 
   module _ (a : refusal s ≡ 0)
       (r : room (sizeOf s) (length left) (length right) (length links) (length left-layout) (length right-layout) ≡ 0) where
-    pub unpack-accepted : {n : ℕ} {answer : Unpacked} {left′ right′ links′ left-layout′ right-layout′ : List ℕ} → n ≡ sizeOf s →
-        answer ≡ record { refusal = refused 0; hold = holdOf s; n = n } →
+    pub unpack-accepted : {n h : ℕ} {none : Refusal} {left′ right′ links′ left-layout′ right-layout′ : List ℕ} → n ≡ sizeOf s →
+        none ≡ refused 0 → h ≡ holdOf s →
         (left′ ≡ sets left 0 (partsOf s n .left-rows)) ×
         ((right′ ≡ sets right 0 (partsOf s n .right-rows)) ×
         ((links′ ≡ sets links 0 (partsOf s n .links)) ×
         ((left-layout′ ≡ sets left-layout 0 (partsOf s n .left-layout)) ×
         (right-layout′ ≡ sets right-layout 0 (partsOf s n .right-layout))))) →
-        Unpacks s left right links left-layout right-layout answer left′ right′ links′ left-layout′ right-layout′
+        Unpacks s left right links left-layout right-layout (record { refusal = none; hold = h; n = n }) left′ right′ links′ left-layout′
+        right-layout′
     unfolding partsOf
-    unpack-accepted f b w =
+    unpack-accepted f b d w =
         let n = sizeOf s in
         let k = unpacking s left right links left-layout right-layout in
         let z : k ≡ 0 = sym (unpack-second a) ∙ r in
         let g = accepted-sized s a in
-        let d = room-good n _ _ _ _ _ r in
+        let c = room-good n _ _ _ _ _ r in
         let put : (part : Parts → List ℕ) (found after : List ℕ) → length (part (parts s)) ≤ length found →
         after ≡ sets found 0 (part (partsOf s _)) → after ≡ lent k (part (parts s)) found =
         λ part found after h e.
@@ -113,7 +115,7 @@ module _ (s left right links left-layout right-layout : List ℕ) where
         ∙ sets-front found (part (parts s)) h
         ∙ lent-accepted k (part (parts s)) found z in
         record {
-          answers = b ∙ rw (f, z) refl;
+          answers = rw (b, d, f, z) refl;
           leaves-left = put (λ P. P .left-rows) left _ (omega (arith, length-numbers s 8 (2 * (n - 1)))) (w .0);
           leaves-right = put (λ P. P .right-rows) right _ (omega (arith, length-numbers s (rightAt n) (2 * (n - 1)))) (w .1 .0);
           leaves-links = put (λ P. P .links) links _ (omega (arith, length-numbers s (linksAt n) n)) (w .1 .1 .0);

@@ -3,7 +3,7 @@ use Prim.Native.Nat.{ℕ}
 use mathlib.Core.Path.{_≡_}
 use mathlib.Core.List.{List}
 use Rattle.format.specs.Fields.{holdOf, sizeOf, parts}
-use Rattle.record.specs.Calls.{refused, lent, orZero}
+use Rattle.format.specs.Refused.{refused, lent, orZero}
 use Rattle.unpacking.specs.declared.unpacking.Unpacked.{Unpacked}
 use Rattle.unpacking.specs.Refusals.{unpacking}
 

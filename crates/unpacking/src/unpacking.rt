@@ -7,10 +7,17 @@ ghost use Rattle.unpacking.specs.Calls.{unpackedNone, Unpacks};
 ghost use Rattle.unpacking.specs.Refusals.{room};
 ghost use Rattle.format.specs.Fields.{partsOf, Sized};
 use format::copying::bytes_in;
-use format::copying::number;
 use format::copying::numbers_out;
+use format::fields::LEFT_ROWS_AT;
+use format::fields::hold_of;
+use format::fields::left_layout_at;
+use format::fields::links_at;
+use format::fields::right_layout_at;
+use format::fields::right_rows_at;
+use format::fields::size_of;
 use format::refusal::ROOM;
 use format::refusal::Refusal;
+use format::refusal::refused;
 use record::reading::refusal_number;
 
 // What unpacking answers beside the buffers; hold and n are 0 where it refuses.
@@ -21,11 +28,11 @@ pub struct Unpacked {
 }
 
 // What a refused unpacking answers.
-fn refused(k: u16) -> Unpacked
+fn unpacked_none(k: u16) -> Unpacked
     ensures { λ r. ⌜ r ≡ unpackedNone k ⌝ }
 {
     Unpacked {
-        refusal: Refusal { number: k },
+        refusal: refused(k),
         hold: 0,
         n: 0,
     }
@@ -85,13 +92,12 @@ fn write_parts(
         now (rightlayout .exit) ≡ sets (now (rightlayout .entry)) 0 (partsOf (now (s .entry)) n .right-layout)
         ⌝ }
 {
-    let k = n as usize;
-    let m = k - 1;
-    let at = 8 + 8 * m + 2 * k;
-    let last = at + m;
-    numbers_out(s, 8, 2 * m, left);
-    numbers_out(s, 8 + 4 * m, 2 * m, right);
-    numbers_out(s, 8 + 8 * m, k, links);
+    let m = n as usize - 1;
+    numbers_out(s, LEFT_ROWS_AT, 2 * m, left);
+    numbers_out(s, right_rows_at(n), 2 * m, right);
+    numbers_out(s, links_at(n), n as usize, links);
+    let at = left_layout_at(n);
+    let last = right_layout_at(n);
     bytes_in(&s[at..last], leftlayout, 0);
     bytes_in(&s[last..], rightlayout, 0);
 }
@@ -124,9 +130,9 @@ pub fn unpack(
 {
     let k = refusal_number(s);
     if k != 0 {
-        return refused(k);
+        return unpacked_none(k);
     }
-    let n = number(s, 6);
+    let n = size_of(s);
     let room = room_number(
         n,
         left.len(),
@@ -136,12 +142,12 @@ pub fn unpack(
         rightlayout.len(),
     );
     if room != 0 {
-        return refused(room);
+        return unpacked_none(room);
     }
     write_parts(s, n, left, right, links, leftlayout, rightlayout);
     Unpacked {
-        refusal: Refusal { number: 0 },
-        hold: s[5],
+        refusal: refused(0),
+        hold: hold_of(s),
         n: n,
     }
 }

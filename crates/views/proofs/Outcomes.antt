@@ -14,10 +14,10 @@ use Rattle.tanglegram.specs.Run.{left, right}
 use Rattle.tanglegram.proofs.Lists.{all-length}
 use Rattle.format.specs.Fields.{sizeOf, parts}
 use Rattle.format.specs.Refusals.{refusal}
-use Rattle.record.specs.Calls.{refused}
+use Rattle.format.specs.Refused.{refused}
 use Rattle.format.proofs.Acceptance.{else-first, none-both}
 use Rattle.format.proofs.Heading.{none-first, not-no}
-use Rattle.record.proofs.Outcomes.{lent-refused, lent-accepted}
+use Rattle.format.proofs.Refused.{lent-refused, lent-accepted}
 use Rattle.format.proofs.Stores.{sets-front}
 use Rattle.views.specs.declared.answers.Entangled.the-variants.{Ratio, NoRatio, Refused}
 use Rattle.standing.specs.Sides.{isSide, sideOf}

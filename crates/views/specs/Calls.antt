@@ -10,7 +10,7 @@ use Rattle.tanglegram.specs.Entanglement.{worst}
 use Rattle.format.specs.declared.refusal.Refusal.{Refusal}
 use Rattle.format.specs.Fields.{sizeOf}
 use Rattle.format.specs.Refusals.{refusal}
-use Rattle.record.specs.Calls.{refused, accepted, lent, orZero}
+use Rattle.format.specs.Refused.{refused, accepted, lent, orZero}
 use Rattle.standing.specs.Sides.{sideOf}
 use Rattle.standing.specs.Shown.{shownOrder, shownCount, shownDisplacement}
 use Rattle.views.specs.declared.answers.Counted.{Counted}

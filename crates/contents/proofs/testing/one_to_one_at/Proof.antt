@@ -1,6 +1,8 @@
 -- `one_to_one_at` says whether the links that stand in a record are one-to-one.
 use mathlib.Core.Path.{ap, _∙_}
-use lib.ListN.{take}
+use lib.ListN.{length, take}
+use lib.Seq.{length-sets}
+use native.Mathlib.Omega.{arith}
 use Rattle.format.specs.Fields.{numbers}
 use Rattle.format.specs.Refusals.{oneToOne}
 use Rattle.format.proofs.Stores.{length-numbers}
@@ -9,27 +11,24 @@ use borrow.Author.Needs.{needs}
 use Rattle.contents.proofs.testing.one_to_one_at.Statement.{statement}
 use Rattle.contents.proofs.testing.one_to_one_at.Tie as tie
 
-slice-aggregate-numbers-out : tie.Need-slice-aggregate-numbers-out
-slice-aggregate-numbers-out c = search needs
-
-numbers-out-requires : tie.Need-numbers-out-requires
-numbers-out-requires c κs = search needs
+fill-links-requires : tie.Need-fill-links-requires
+fill-links-requires c κs = search needs
 
 one-to-one-requires : tie.Need-one-to-one-requires
-one-to-one-requires c κs = search needs
+one-to-one-requires c κs =
+    let h = c .before .before .before .before .pre in
+    let l = c .before .fill-links .ensures in
+    (h .0, omega (arith, simp length-sets at (ap length l)))
 
 returns : tie.Need-returns
 returns c =
-    let p = c .before .before .before in
+    let p = c .before .before in
     let s = p .before .before .before .args in
-    let n = s .n in
     let h = p .before .before .before .pre in
-    let xs = numbers (s .s .now) (s .at) n in
+    let xs = numbers (s .s .now) (s .at) (s .n) in
     c .one-to-one .ensures
-    ∙ ap (λ t. oneToOne n (take n t)) (p .numbers-out .ensures)
-    ∙ ap (oneToOne n) (take-sets _ xs n (length-numbers (s .s .now) (s .at) n) (h .0))
+    ∙ ap (λ t. oneToOne (s .n) (take (s .n) t)) (p .fill-links .ensures)
+    ∙ ap (oneToOne (s .n)) (take-sets _ xs (s .n) (length-numbers (s .s .now) (s .at) (s .n)) (h .0))
 
 pub one-to-one-at-spec : {M : Type 1} → statement M
-one-to-one-at-spec =
-    tie.close
-    (tie.spec slice-aggregate-numbers-out numbers-out-requires one-to-one-requires returns)
+one-to-one-at-spec = tie.close (tie.spec fill-links-requires one-to-one-requires returns)

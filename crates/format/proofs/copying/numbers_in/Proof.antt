@@ -2,7 +2,7 @@
 use Prim.Native.Nat.{_-_, _≤_}
 use mathlib.Core.Path.{_≡_, ap, _∙_}
 use native.Mathlib.Omega.{arith}
-use lib.ListN.{length, length-set, take}
+use lib.ListN.{length, take}
 use lib.Seq.{sets, take-all}
 use Rattle.format.specs.Fields.{split}
 use Rattle.format.proofs.Stores.{store-two}
@@ -20,38 +20,20 @@ loop-holds : tie.Need-loop-holds Inv-loop μ-loop
 unfolding split
 loop-holds c = search needs
 
-mul-x : tie.Need-mul-x Inv-loop μ-loop
-mul-x c = search needs
+mul-number-in : tie.Need-mul-number-in Inv-loop μ-loop
+mul-number-in c = search needs
 
-shared-slice-read-x : tie.Need-shared-slice-read-x Inv-loop μ-loop
-shared-slice-read-x c = search needs
+shared-slice-read-number-in : tie.Need-shared-slice-read-number-in Inv-loop μ-loop
+shared-slice-read-number-in c = search needs
 
-cast-out : tie.Need-cast-out Inv-loop μ-loop
-cast-out c = omega (arith, c .shared-slice-known .given (c .before .before .loop .i))
+mul-number-in-2 : tie.Need-mul-number-in-2 Inv-loop μ-loop
+mul-number-in-2 c = search needs
 
-mul-out : tie.Need-mul-out Inv-loop μ-loop
-mul-out c = search needs
+add-number-in : tie.Need-add-number-in Inv-loop μ-loop
+add-number-in c = search needs
 
-add-out : tie.Need-add-out Inv-loop μ-loop
-add-out c = search needs
-
-slice-write-out : tie.Need-slice-write-out Inv-loop μ-loop
-slice-write-out c = search needs
-
-cast-out-2 : tie.Need-cast-out-2 Inv-loop μ-loop
-cast-out-2 c = search needs
-
-mul-out-2 : tie.Need-mul-out-2 Inv-loop μ-loop
-mul-out-2 c = search needs
-
-add-out-2 : tie.Need-add-out-2 Inv-loop μ-loop
-add-out-2 c = search needs
-
-add-out-3 : tie.Need-add-out-3 Inv-loop μ-loop
-add-out-3 c = search needs
-
-slice-write-out-2 : tie.Need-slice-write-out-2 Inv-loop μ-loop
-slice-write-out-2 c = simp length-set (omega arith)
+number-in-requires : tie.Need-number-in-requires Inv-loop μ-loop
+number-in-requires c κs = search needs
 
 add-i : tie.Need-add-i Inv-loop μ-loop
 add-i c = search needs
@@ -61,10 +43,11 @@ loop-less c = search needs
 
 loop-again : tie.Need-loop-again Inv-loop μ-loop
 loop-again c =
-    let s = c .before .before .before in
-    let l = c .before .before .loop in
+    let w = c .before .before in
+    let l = w .before .before .before .before .loop in
+    let s = w .before .before .before .before .before .before .before in
     let stored = store-two (s .args .list .now) (s .args .out .now) (s .args .at) (l .i) (omega arith) in
-    (omega arith, simp length-set (l .inv .1), rw (l .inv .2) stored)
+    (omega arith, search needs, w .number-in .ensures ∙ rw (l .inv .2) stored)
 
 same-length : tie.Need-same-length Inv-loop μ-loop
 same-length c = search needs
@@ -72,7 +55,7 @@ same-length c = search needs
 returns : tie.Need-returns Inv-loop μ-loop
 returns c =
     let l = c .before .loop in
-    let a = c .before .before .args in
+    let a = c .before .before .before .before .args in
     l .inv .2 ∙ ap (λ r. sets (a .out .now) (a .at) (split r)) (take-all (l .i) (a .list .now) (omega arith))
 
 pub numbers-in-spec : {M : Type 1} → statement M
@@ -82,17 +65,11 @@ numbers-in-spec =
     Inv-loop
     μ-loop
     loop-holds
-    mul-x
-    shared-slice-read-x
-    cast-out
-    mul-out
-    add-out
-    slice-write-out
-    cast-out-2
-    mul-out-2
-    add-out-2
-    add-out-3
-    slice-write-out-2
+    mul-number-in
+    shared-slice-read-number-in
+    mul-number-in-2
+    add-number-in
+    number-in-requires
     add-i
     loop-less
     loop-again

@@ -10,72 +10,90 @@ use Rattle.packing.proofs.packing.pack.Tie as tie
 shape-number-requires : tie.Need-shape-number-requires
 shape-number-requires c κs = search needs
 
+refused-requires : tie.Need-refused-requires
+refused-requires c κs = search needs
+
 returns : tie.Need-returns
 returns c =
-    let e = c .before .shape-number .ensures in
-    pack-refused _ _ (e ∙ packing-shape _ _ (λ z. c .if1 .taken (e ∙ z))) (c .if1 .taken)
+    let p = c .before in
+    let e = p .before .shape-number .ensures in
+    pack-refused _ _ (e ∙ packing-shape _ _ (λ z. p .if1 .taken (e ∙ z))) (p .if1 .taken) (c .refused .ensures)
 
 lists-number-requires : tie.Need-lists-number-requires
 lists-number-requires c κs =
     shape-good _ (sym (c .before .shape-number .ensures) ∙ c .if1 .left) .1
 
+refused-requires-2 : tie.Need-refused-requires-2
+refused-requires-2 c κs = search needs
+
 returns-2 : tie.Need-returns-2
 returns-2 c =
-    let p = c .before .before in
-    let a = c .before .before .before .before .before .before .before .before .before .before .args in
-    let e = c .before .lists-number .ensures (a .hold) in
+    let q = c .before in
+    let p = q .before .before in
+    let a = p .before .before .before .before .before .before .before .before .args in
+    let e = q .before .lists-number .ensures (a .hold) in
     let s = sym (p .before .shape-number .ensures) ∙ p .if1 .left in
-    pack-refused _ _ (e ∙ packing-contents _ _ s (λ z. c .if2 .taken (e ∙ z))) (c .if2 .taken)
+    pack-refused _ _ (e ∙ packing-contents _ _ s (λ z. q .if2 .taken (e ∙ z))) (q .if2 .taken) (c .refused2 .ensures)
 
-mul-if3 : tie.Need-mul-if3
-mul-if3 c = search needs
-
-sub-if3 : tie.Need-sub-if3
-sub-if3 c =
+length-of-requires : tie.Need-length-of-requires
+length-of-requires c κs =
     let p = c .before .before in
-    let h = shape-some _ _ _ _ _ _ _ (sym (p .before .shape-number .ensures) ∙ p .if1 .left) in
-    omega arith
+    shape-some _ _ _ _ _ _ _ (sym (p .before .shape-number .ensures) ∙ p .if1 .left)
+
+refused-requires-3 : tie.Need-refused-requires-3
+refused-requires-3 c κs = search needs
 
 returns-3 : tie.Need-returns-3
 returns-3 c =
-    let q = c .before in
+    let r = c .before in
+    let q = r .before .before in
     let p = q .before .before in
     let a = p .before .before .before .before .before .before .before .before .args in
     let s = sym (p .before .shape-number .ensures) ∙ p .if1 .left in
     let l = sym (q .before .lists-number .ensures (a .hold)) ∙ q .if2 .left in
-    pack-refused _ _ (packing-14 _ _ s l (omega arith)) (omega arith)
+    let n = r .before .length-of .ensures in
+    pack-refused _ _ (packing-14 _ _ s l (rw n at (r .if3 .taken))) (omega arith) (c .refused3 .ensures)
 
 write-record-requires : tie.Need-write-record-requires
 write-record-requires c κs =
-    let q = c .before .before in
+    let r = c .before in
+    let q = r .before .before in
     let p = q .before .before in
-    (shape-good _ (sym (p .before .shape-number .ensures) ∙ p .if1 .left) .1, c .before .if3 .left)
+    let n = r .before .length-of .ensures in
+    (shape-good _ (sym (p .before .shape-number .ensures) ∙ p .if1 .left) .1, rw n at (r .if3 .left))
+
+refused-requires-4 : tie.Need-refused-requires-4
+refused-requires-4 c κs = search needs
 
 same-length : tie.Need-same-length
 same-length c = search needs
 
 returns-4 : tie.Need-returns-4
 returns-4 c =
-    let w = c .before .before in
-    let v = w .before .before in
-    let q = v .before in
+    let w = c .before .before .before in
+    let r = w .before .before in
+    let q = r .before .before in
     let p = q .before .before in
     let a = p .before .before .before .before .before .before .before .before .args in
     let s = sym (p .before .shape-number .ensures) ∙ p .if1 .left in
     let l = sym (q .before .lists-number .ensures (a .hold)) ∙ q .if2 .left in
-    pack-accepted _ _ (packing-0 _ _ s l (v .if3 .left)) (w .write-record .ensures)
+    let n = r .before .length-of .ensures in
+    pack-accepted _ _ (packing-0 _ _ s l (rw n at (r .if3 .left))) (c .refused4 .ensures) (w .write-record .ensures)
 
 pub pack-spec : {M : Type 1} → statement M
 pack-spec =
     tie.close
     (tie.spec
     shape-number-requires
+    refused-requires
     returns
     lists-number-requires
+    refused-requires-2
     returns-2
-    mul-if3
-    sub-if3
+    length-of-requires
+    refused-requires-3
     returns-3
     write-record-requires
+    refused-requires-4
     same-length
     returns-4)

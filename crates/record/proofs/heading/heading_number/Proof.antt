@@ -1,12 +1,31 @@
 -- `heading_number` gives the first of the tests of the first eight bytes and the length that holds.
-use mathlib.Core.Path.{sym, ap, _∙_}
+use mathlib.Core.Bool.{true, false}
+use mathlib.Core.Path.{_≡_, sym, ap, _∙_}
 use native.Mathlib.Omega.{arith}
-use Rattle.format.specs.Fields.{lengthOf}
-use Rattle.format.specs.Refusals.{noSize}
+use Rattle.format.specs.Fields.{two, versionAt, holdOf, sizeOf, lengthOf}
+use Rattle.format.specs.Refusals.{isHold, isMark, noSize}
 use Rattle.format.proofs.Heading.{heading-1, heading-2, heading-3, heading-4, heading-5, heading-6, heading-0, sized, passed, failed}
 use borrow.Author.Needs.{needs}
 use Rattle.record.proofs.heading.heading_number.Statement.{statement}
 use Rattle.record.proofs.heading.heading_number.Tie as tie
+
+-- ---- what each test that was passed says of the bytes
+
+marked : (c : tie.Else2) → isMark (c .before .before .before .before .args .s .now) ≡ true
+marked c = passed (c .before .is-mark .ensures) (c .if2 .left)
+
+versioned : (c : tie.Else3) → two (c .before .before .before .before .before .before .args .s .now) versionAt ≡ 1
+versioned c = sym (c .before .number .ensures) ∙ c .if3 .left
+
+held : (c : tie.Else4) → isHold (holdOf (c .before .before .before .before .before .before .before .before .before .args .s .now)) ≡ true
+held c =
+    let e = c .before .before .hold-of .ensures in
+    passed (rw e at (c .before .is-hold .ensures)) (c .if4 .left)
+
+counted : (c : tie.Else5) → let z = c .before .before .before .before .before .before .before .before .before .before .before .before in
+    noSize (sizeOf (z .args .s .now)) ≡ false
+counted c =
+    ap noSize (sym (c .before .before .size-of .ensures)) ∙ sym (c .before .no-size .ensures) ∙ c .if5 .left
 
 returns : tie.Need-returns
 returns c = heading-1 _ (c .if1 .taken)
@@ -24,25 +43,24 @@ number-requires c κs = search needs
 returns-3 : tie.Need-returns-3
 returns-3 c =
     let p = c .before .before in
-    heading-3 _ (p .before .before .if1 .left) (passed (p .before .is-mark .ensures) (p .if2 .left))
-    (λ e. c .if3 .taken (c .before .number .ensures ∙ e))
+    heading-3 _ (p .before .before .if1 .left) (marked p) (λ e. c .if3 .taken (c .before .number .ensures ∙ e))
 
-shared-slice-read-is-hold : tie.Need-shared-slice-read-is-hold
-shared-slice-read-is-hold c = search needs
+hold-of-requires : tie.Need-hold-of-requires
+hold-of-requires c κs = search needs
 
 is-hold-requires : tie.Need-is-hold-requires
 is-hold-requires c κs = search needs
 
 returns-4 : tie.Need-returns-4
 returns-4 c =
-    let q = c .before .before .before in
+    let h = c .before .before in
+    let q = h .before in
     let p = q .before .before in
-    heading-4 _ (p .before .before .if1 .left) (passed (p .before .is-mark .ensures) (p .if2 .left))
-    (sym (q .before .number .ensures) ∙ q .if3 .left)
-    (failed (c .before .is-hold .ensures) (c .if4 .taken))
+    let e = h .hold-of .ensures in
+    heading-4 _ (p .before .before .if1 .left) (marked p) (versioned q) (failed (rw e at (c .before .is-hold .ensures)) (c .if4 .taken))
 
-number-requires-2 : tie.Need-number-requires-2
-number-requires-2 c κs = search needs
+size-of-requires : tie.Need-size-of-requires
+size-of-requires c κs = search needs
 
 no-size-requires : tie.Need-no-size-requires
 no-size-requires c κs = search needs
@@ -52,43 +70,33 @@ returns-5 c =
     let o = c .before .before .before in
     let q = o .before .before .before in
     let p = q .before .before in
-    heading-5 _ (p .before .before .if1 .left) (passed (p .before .is-mark .ensures) (p .if2 .left))
-    (sym (q .before .number .ensures) ∙ q .if3 .left)
-    (passed (o .before .is-hold .ensures) (o .if4 .left))
-    (ap noSize (sym (c .before .before .number2 .ensures)) ∙ sym (c .before .no-size .ensures) ∙ c .if5 .taken)
+    heading-5 _ (p .before .before .if1 .left) (marked p) (versioned q) (held o)
+    (ap noSize (sym (c .before .before .size-of .ensures)) ∙ sym (c .before .no-size .ensures) ∙ c .if5 .taken)
 
-cast-if6 : tie.Need-cast-if6
-cast-if6 c = search needs
-
-mul-if6 : tie.Need-mul-if6
-mul-if6 c = search needs
-
-sub-if6 : tie.Need-sub-if6
-sub-if6 c =
+length-of-requires : tie.Need-length-of-requires
+length-of-requires c κs =
     let some = sized _ (sym (c .before .no-size .ensures) ∙ c .if5 .left) in
     omega arith
 
 returns-6 : tie.Need-returns-6
 returns-6 c =
-    let o = c .before .before .before .before in
+    let l = c .before in
+    let m = l .before in
+    let o = m .before .before .before in
     let q = o .before .before .before in
     let p = q .before .before in
-    heading-6 _ (p .before .before .if1 .left) (passed (p .before .is-mark .ensures) (p .if2 .left))
-    (sym (q .before .number .ensures) ∙ q .if3 .left)
-    (passed (o .before .is-hold .ensures) (o .if4 .left))
-    (ap noSize (sym (c .before .before .before .number2 .ensures)) ∙ sym (c .before .before .no-size .ensures) ∙ c .before .if5 .left)
-    (λ e. c .if6 .taken (e ∙ ap lengthOf (sym (c .before .before .before .number2 .ensures))))
+    heading-6 _ (p .before .before .if1 .left) (marked p) (versioned q) (held o) (counted m)
+    (λ e. c .if6 .taken (e ∙ ap lengthOf (sym (m .before .before .size-of .ensures)) ∙ sym (l .length-of .ensures)))
 
 returns-7 : tie.Need-returns-7
 returns-7 c =
-    let o = c .before .before .before .before in
+    let l = c .before in
+    let m = l .before in
+    let o = m .before .before .before in
     let q = o .before .before .before in
     let p = q .before .before in
-    heading-0 _ (p .before .before .if1 .left) (passed (p .before .is-mark .ensures) (p .if2 .left))
-    (sym (q .before .number .ensures) ∙ q .if3 .left)
-    (passed (o .before .is-hold .ensures) (o .if4 .left))
-    (ap noSize (sym (c .before .before .before .number2 .ensures)) ∙ sym (c .before .before .no-size .ensures) ∙ c .before .if5 .left)
-    (c .if6 .left ∙ ap lengthOf (c .before .before .before .number2 .ensures))
+    heading-0 _ (p .before .before .if1 .left) (marked p) (versioned q) (held o) (counted m)
+    (c .if6 .left ∙ l .length-of .ensures ∙ ap lengthOf (m .before .before .size-of .ensures))
 
 pub heading-number-spec : {M : Type 1} → statement M
 heading-number-spec =
@@ -99,14 +107,12 @@ heading-number-spec =
     returns-2
     number-requires
     returns-3
-    shared-slice-read-is-hold
+    hold-of-requires
     is-hold-requires
     returns-4
-    number-requires-2
+    size-of-requires
     no-size-requires
     returns-5
-    cast-if6
-    mul-if6
-    sub-if6
+    length-of-requires
     returns-6
     returns-7)

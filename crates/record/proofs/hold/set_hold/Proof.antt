@@ -1,4 +1,4 @@
--- `set_hold` answers the refusal and changes nothing, or writes byte 5.
+-- `set_hold` answers the refusal and changes nothing, or writes the letter.
 use mathlib.Core.Path.{sym, _∙_}
 use native.Mathlib.Omega.{arith}
 use Rattle.format.proofs.Acceptance.{accepted-sized, holding-accepted}
@@ -10,11 +10,16 @@ use Rattle.record.proofs.hold.set_hold.Tie as tie
 holding-number-requires : tie.Need-holding-number-requires
 holding-number-requires c κs = search needs
 
+refused-requires : tie.Need-refused-requires
+refused-requires c κs = search needs
+
 same-length : tie.Need-same-length
 same-length c = search needs
 
 returns : tie.Need-returns
-returns c = hold-refused _ _ (c .before .holding-number .ensures) (c .if1 .taken)
+returns c =
+    let p = c .before in
+    hold-refused _ _ (p .before .holding-number .ensures) (p .if1 .taken) (c .refused .ensures)
 
 slice-write-s : tie.Need-slice-write-s
 slice-write-s c =
@@ -22,13 +27,26 @@ slice-write-s c =
     let g = accepted-sized _ (z .1) in
     omega arith
 
+refused-requires-2 : tie.Need-refused-requires-2
+refused-requires-2 c κs = search needs
+
 same-length-2 : tie.Need-same-length-2
 same-length-2 c = search needs
 
 returns-2 : tie.Need-returns-2
-returns-2 c = hold-set _ _ (c .before .holding-number .ensures) (c .if1 .left)
+returns-2 c =
+    let p = c .before in
+    hold-set _ _ (p .before .holding-number .ensures) (p .if1 .left) (c .refused2 .ensures)
 
 pub set-hold-spec : {M : Type 1} → statement M
 set-hold-spec =
     tie.close
-    (tie.spec holding-number-requires same-length returns slice-write-s same-length-2 returns-2)
+    (tie.spec
+    holding-number-requires
+    refused-requires
+    same-length
+    returns
+    slice-write-s
+    refused-requires-2
+    same-length-2
+    returns-2)

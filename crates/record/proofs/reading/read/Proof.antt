@@ -1,5 +1,5 @@
 -- `read` answers the refusal, or the hold and n of an accepted record.
-use mathlib.Core.Path.{refl, sym, _∙_}
+use mathlib.Core.Path.{sym, _∙_}
 use native.Mathlib.Omega.{arith}
 use Rattle.format.proofs.Acceptance.{accepted-sized}
 use Rattle.record.proofs.Outcomes.{read-refused, read-accepted}
@@ -10,17 +10,21 @@ use Rattle.record.proofs.reading.read.Tie as tie
 refusal-number-requires : tie.Need-refusal-number-requires
 refusal-number-requires c κs = search needs
 
-returns : tie.Need-returns
-returns c = read-refused _ (c .before .refusal-number .ensures) (c .if1 .taken)
+refused-requires : tie.Need-refused-requires
+refused-requires c κs = search needs
 
-shared-slice-read-t6 : tie.Need-shared-slice-read-t6
-shared-slice-read-t6 c =
+returns : tie.Need-returns
+returns c =
     let p = c .before in
-    let g = accepted-sized _ (sym (p .before .refusal-number .ensures) ∙ p .if1 .left) in
+    read-refused _ (p .before .refusal-number .ensures) (p .if1 .taken) (c .refused .ensures)
+
+hold-of-requires : tie.Need-hold-of-requires
+hold-of-requires c κs =
+    let g = accepted-sized _ (sym (c .before .refusal-number .ensures) ∙ c .if1 .left) in
     omega arith
 
-number-requires : tie.Need-number-requires
-number-requires c κs =
+size-of-requires : tie.Need-size-of-requires
+size-of-requires c κs =
     let p = c .before in
     let g = accepted-sized _ (sym (p .before .refusal-number .ensures) ∙ p .if1 .left) in
     omega arith
@@ -28,9 +32,9 @@ number-requires c κs =
 returns-2 : tie.Need-returns-2
 returns-2 c =
     let p = c .before .before in
-    read-accepted _ (p .before .refusal-number .ensures) (p .if1 .left) refl (c .number .ensures)
+    read-accepted _ (p .before .refusal-number .ensures) (p .if1 .left) (c .before .hold-of .ensures) (c .size-of .ensures)
 
 pub read-spec : {M : Type 1} → statement M
 read-spec =
     tie.close
-    (tie.spec refusal-number-requires returns shared-slice-read-t6 number-requires returns-2)
+    (tie.spec refusal-number-requires refused-requires returns hold-of-requires size-of-requires returns-2)

@@ -16,25 +16,25 @@ returns c =
     let e = c .before .heading-number .ensures in
     e ∙ sym (refusal-heading _ (λ z. c .if1 .taken (e ∙ z)))
 
-number-requires : tie.Need-number-requires
-number-requires c κs =
+size-of-requires : tie.Need-size-of-requires
+size-of-requires c κs =
     let g = heading-sized _ (sym (c .before .heading-number .ensures) ∙ c .if1 .left) in
     omega arith
 
 contents-number-requires : tie.Need-contents-number-requires
 contents-number-requires c κs =
     let p = c .before in
-    subst (Sized _) (sym (c .number .ensures)) (heading-sized _ (sym (p .before .heading-number .ensures) ∙ p .if1 .left))
+    subst (Sized _) (sym (c .size-of .ensures)) (heading-sized _ (sym (p .before .heading-number .ensures) ∙ p .if1 .left))
 
 returns-2 : tie.Need-returns-2
 returns-2 c =
     let p = c .before .before in
     let s = p .before .before .before .args .s .now in
     c .contents-number .ensures
-    ∙ ap (λ n. contents (partsOf s n)) (c .before .number .ensures)
+    ∙ ap (λ n. contents (partsOf s n)) (c .before .size-of .ensures)
     ∙ sym (refusal-contents s (sym (p .before .heading-number .ensures) ∙ p .if1 .left))
 
 pub refusal-number-spec : {M : Type 1} → statement M
 refusal-number-spec =
     tie.close
-    (tie.spec heading-number-requires returns number-requires contents-number-requires returns-2)
+    (tie.spec heading-number-requires returns size-of-requires contents-number-requires returns-2)

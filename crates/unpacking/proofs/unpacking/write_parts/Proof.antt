@@ -1,11 +1,9 @@
 -- `write_parts` writes each part of the record to the first places of its buffer.
-use Prim.Native.Nat.{_-_}
-use mathlib.Core.Path.{_≡_, ap, _∙_}
-use native.Mathlib.Nat.{add-sub-cancel-left}
+use mathlib.Core.Path.{ap, _∙_}
 use native.Mathlib.Omega.{arith}
-use lib.ListN.{length}
 use lib.Seq.{sets}
-use Rattle.format.specs.Fields.{partsOf, bytes, leftLayoutAt, rightLayoutAt}
+use Rattle.format.specs.Fields.{partsOf}
+use Rattle.format.proofs.Cuts.{left-cut, right-cut}
 use borrow.Author.Needs.{needs}
 use Rattle.unpacking.proofs.unpacking.write_parts.Statement.{statement}
 use Rattle.unpacking.proofs.unpacking.write_parts.Tie as tie
@@ -13,47 +11,32 @@ use Rattle.unpacking.proofs.unpacking.write_parts.Tie as tie
 sub-m : tie.Need-sub-m
 sub-m c = search needs
 
-mul-at : tie.Need-mul-at
-mul-at c = search needs
-
-add-at : tie.Need-add-at
-add-at c = search needs
-
-mul-at-2 : tie.Need-mul-at-2
-mul-at-2 c = search needs
-
-add-at-2 : tie.Need-add-at-2
-add-at-2 c = search needs
-
-add-last : tie.Need-add-last
-add-last c = search needs
-
 mul-numbers-out : tie.Need-mul-numbers-out
 mul-numbers-out c = search needs
 
 numbers-out-requires : tie.Need-numbers-out-requires
 numbers-out-requires c κs = search needs
 
+right-rows-at-requires : tie.Need-right-rows-at-requires
+right-rows-at-requires c κs = search needs
+
 mul-numbers-out-2 : tie.Need-mul-numbers-out-2
 mul-numbers-out-2 c = search needs
-
-add-numbers-out : tie.Need-add-numbers-out
-add-numbers-out c = search needs
-
-mul-numbers-out-3 : tie.Need-mul-numbers-out-3
-mul-numbers-out-3 c = search needs
 
 numbers-out-requires-2 : tie.Need-numbers-out-requires-2
 numbers-out-requires-2 c κs = search needs
 
-mul-numbers-out-4 : tie.Need-mul-numbers-out-4
-mul-numbers-out-4 c = search needs
-
-add-numbers-out-2 : tie.Need-add-numbers-out-2
-add-numbers-out-2 c = search needs
+links-at-requires : tie.Need-links-at-requires
+links-at-requires c κs = search needs
 
 numbers-out-requires-3 : tie.Need-numbers-out-requires-3
 numbers-out-requires-3 c κs = search needs
+
+left-layout-at-requires : tie.Need-left-layout-at-requires
+left-layout-at-requires c κs = search needs
+
+right-layout-at-requires : tie.Need-right-layout-at-requires
+right-layout-at-requires c κs = search needs
 
 sub-bytes-in : tie.Need-sub-bytes-in
 sub-bytes-in c = search needs
@@ -77,7 +60,11 @@ part-bytes-in-end-2 : tie.Need-part-bytes-in-end-2
 part-bytes-in-end-2 c = search needs
 
 bytes-in-requires-2 : tie.Need-bytes-in-requires-2
-bytes-in-requires-2 c κs = search needs
+bytes-in-requires-2 c κs =
+    let w = c .before .before .before .before .before .before .before in
+    let v = w .before .before .before .before .before .before .before .before .before .before .before in
+    let h = v .before .before .before .before .before .before .before .before .before .before .before .pre in
+    omega (arith, h, w .right-layout-at .ensures)
 
 same-length : tie.Need-same-length
 same-length c = search needs
@@ -99,37 +86,34 @@ unfolding partsOf
 returns c =
     let v₅ = c .before .before in
     let v₄ = v₅ .before .before .before .before .before in
-    let v₃ = v₄ .before .before .before .before .before in
-    let v₂ = v₃ .before .before .before .before in
-    let v₁ = v₂ .before .before .before .before in
+    let w = v₄ .before .before .before in
+    let v₃ = w .before .before .before .before in
+    let v₂ = v₃ .before .before .before .before .before in
+    let v₁ = v₂ .before .before .before .before .before in
     let z = v₁ .before .before .before .before .before .before .before .before in
     let a = z .args in
-    let h = z .pre .0 in
-    let d = add-sub-cancel-left (leftLayoutAt (a .n)) (a .n - 1) in
-    let e : length (a .s .now) - rightLayoutAt (a .n) ≡ a .n - 1 = omega arith in
-    let left-layout = v₄ .bytes-in .ensures ∙ ap (λ k. sets (a .leftlayout .now) 0 (bytes (a .s .now) (leftLayoutAt (a .n)) k)) d in
-    let right-layout = v₅ .bytes-in2 .ensures ∙ ap (λ k. sets (a .rightlayout .now) 0 (bytes (a .s .now) (rightLayoutAt (a .n)) k)) e in
-    (v₁ .numbers-out .ensures, (v₂ .numbers-out2 .ensures, (v₃ .numbers-out3 .ensures, (left-layout, right-layout))))
+    let e = v₂ .before .before .right-rows-at .ensures in
+    let f = v₃ .before .before .links-at .ensures in
+    let left = w .before .left-layout-at .ensures in
+    let right = w .right-layout-at .ensures in
+    let left-layout = v₄ .bytes-in .ensures ∙ ap (sets (a .leftlayout .now) 0) (left-cut _ _ (z .pre .0) left right) in
+    let right-layout = v₅ .bytes-in2 .ensures ∙ ap (sets (a .rightlayout .now) 0) (right-cut _ _ (z .pre .0) left right) in
+    (v₁ .numbers-out .ensures, (rw e at (v₂ .numbers-out2 .ensures), (rw f at (v₃ .numbers-out3 .ensures), (left-layout, right-layout))))
 
 pub write-parts-spec : {M : Type 1} → statement M
 write-parts-spec =
     tie.close
     (tie.spec
     sub-m
-    mul-at
-    add-at
-    mul-at-2
-    add-at-2
-    add-last
     mul-numbers-out
     numbers-out-requires
+    right-rows-at-requires
     mul-numbers-out-2
-    add-numbers-out
-    mul-numbers-out-3
     numbers-out-requires-2
-    mul-numbers-out-4
-    add-numbers-out-2
+    links-at-requires
     numbers-out-requires-3
+    left-layout-at-requires
+    right-layout-at-requires
     sub-bytes-in
     part-bytes-in-start
     part-bytes-in-end
