@@ -15,9 +15,10 @@ use Rattle.format.specs.Meaning.{tableOf}
 use Rattle.format.proofs.Acceptance.{else-first, none-both}
 use Rattle.format.proofs.Heading.{none-first, not-no}
 use Rattle.standing.specs.Sides.{Given, isSide, sideOf}
+use Rattle.format.specs.declared.refusal.Refusal.{Refusal}
 use Rattle.proposals.specs.declared.answers.Compared.{Compared}
 use Rattle.proposals.specs.Refusals.{isOrder, comparing}
-use Rattle.proposals.specs.Calls.{countWith, firstBetter, betterPart, betterWhich, Betters, Compares, BetterChecks}
+use Rattle.proposals.specs.Calls.{countWith, firstBetter, betterPart, betterWhich, Betters, compareTold, Compares, BetterChecks}
 use Rattle.standing.proofs.AsItStands.{given-size}
 use Rattle.proposals.proofs.Proposed.{order-within}
 
@@ -82,23 +83,24 @@ module _ (s : List ℕ) (side : ℕ) (first second : List ℕ) where
 
   -- ---- the statements
 
-  pub better-checked : {k : ℕ} → k ≡ comparing s side first second → BetterChecks s side first second (record { number = k })
-  better-checked e = record { answers = ap refused e }
+  pub better-checked : {k : ℕ} {told : Refusal} → told ≡ refused k → k ≡ comparing s side first second →
+      BetterChecks s side first second told
+  better-checked t e = record { answers = t ∙ ap refused e }
 
-  pub compare-refused : {k : ℕ} → k ≡ comparing s side first second → k ≢ 0 →
-      Compares s side first second (record { refusal = refused k; which = 0; length = 0 })
+  pub compare-refused : {k : ℕ} {told : Compared} → told ≡ compareTold k 0 0 → k ≡ comparing s side first second → k ≢ 0 →
+      Compares s side first second told
   unfolding betterWhich
-  compare-refused {k} e h = record { answers = rw (← e, ne-eqb k 0 h) refl }
+  compare-refused {k} t e h = record { answers = t ∙ rw (← e, ne-eqb k 0 h) refl }
 
   module _ {n a b : ℕ} (none : comparing s side first second ≡ 0) (e : n ≡ sizeOf s)
       (p : a ≡ countWith s (sideOf side) first) (q : b ≡ countWith s (sideOf side) second) where
-    pub compare-first : a ≤ b → Compares s side first second (record { refusal = refused 0; which = 1; length = n })
+    pub compare-first : {told : Compared} → told ≡ compareTold 0 1 n → a ≤ b → Compares s side first second told
     unfolding betterWhich
-    compare-first h = record { answers = rw (none, ← p, ← q, le-leb a b h, e) refl }
+    compare-first t h = record { answers = t ∙ rw (none, ← p, ← q, le-leb a b h, e) refl }
 
-    pub compare-second : b < a → Compares s side first second (record { refusal = refused 0; which = 2; length = n })
+    pub compare-second : {told : Compared} → told ≡ compareTold 0 2 n → b < a → Compares s side first second told
     unfolding betterWhich
-    compare-second h = record { answers = rw (none, ← p, ← q, lt-leb a b h, e) refl }
+    compare-second t h = record { answers = t ∙ rw (none, ← p, ← q, lt-leb a b h, e) refl }
 
   -- from the answer in numbers to the part: so many entries of that order, none of the first where anything is refused
   module _ {c : Compared} (h : Compares s side first second c) where

@@ -42,6 +42,10 @@ betterWhich s side first second = orZero (comparing s side first second) (cond (
 pub record Betters (s : List ℕ) (side : ℕ) (first second part : List ℕ) : Type 0 where
   pub answers : part ≡ betterPart s side first second
 
+-- A comparison with a refusal's number.
+abbrev pub compareTold : ℕ → ℕ → ℕ → Compared
+compareTold k w l = record { refusal = refused k; which = w; length = l }
+
 pub record Compares (s : List ℕ) (side : ℕ) (first second : List ℕ) (answer : Compared) : Type 0 where
   pub answers : answer ≡ record {
     refusal = refused (comparing s side first second);

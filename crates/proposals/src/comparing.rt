@@ -6,10 +6,13 @@ ghost use Rattle.proposals.specs.Calls.{BetterChecks, Betters, Compares,
 ghost use Rattle.proposals.specs.Refusals.{comparing, isOrder};
 ghost use Rattle.standing.specs.Sides.{Given, isSide, sideOf};
 use crate::answers::Compared;
+use crate::answers::tell_compared;
 use format::copying::copied;
+use format::fields::links_at;
 use format::refusal::ORDER;
 use format::refusal::Refusal;
 use format::refusal::SIDE;
+use format::refusal::refused;
 use linked_orders::crossings_seen;
 use standing::is_side;
 use standing::rows_at;
@@ -43,7 +46,7 @@ fn count_with(s: &[u8], n: u16, side: u16, xs: &[u16]) -> u32
     let mut other = [0u16; 512];
     side_order(s, n, 3 - side, &mut other);
     let mut links = [0u16; 512];
-    format::fill_links(s, 8 + 8 * (k - 1), n, &mut links);
+    format::fill_links(s, links_at(n), n, &mut links);
     if side == 1 {
         return crossings_seen(&links, &order, &other, k);
     }
@@ -75,9 +78,7 @@ fn comparing_number(s: &[u8], side: u16, first: &[u16], second: &[u16]) -> u16
 pub fn better_check(s: &[u8], side: u16, first: &[u16], second: &[u16]) -> Refusal
     ensures { λ r. ⌜ BetterChecks (now (s .entry)) side (now (first .entry)) (now (second .entry)) r ⌝ }
 {
-    Refusal {
-        number: comparing_number(s, side, first, second),
-    }
+    refused(comparing_number(s, side, first, second))
 }
 
 // Which of two lent orders crosses less, the first one on a tie, and how many of its entries count; or the refusal.
@@ -86,27 +87,15 @@ pub fn compare(s: &[u8], side: u16, first: &[u16], second: &[u16]) -> Compared
 {
     let k = comparing_number(s, side, first, second);
     if k != 0 {
-        return Compared {
-            refusal: Refusal { number: k },
-            which: 0,
-            length: 0,
-        };
+        return tell_compared(k, 0, 0);
     }
     let n = record::size_of(s);
     let a = count_with(s, n, side, first);
     let b = count_with(s, n, side, second);
     if b < a {
-        return Compared {
-            refusal: Refusal { number: 0 },
-            which: 2,
-            length: n,
-        };
+        return tell_compared(0, 2, n);
     }
-    Compared {
-        refusal: Refusal { number: 0 },
-        which: 1,
-        length: n,
-    }
+    tell_compared(0, 1, n)
 }
 
 // The first n entries of the lent order that crosses less, of the first one on a tie; an empty part of the first where

@@ -2,6 +2,10 @@
 ghost use mathlib.Core.Path.{_≡_};
 ghost use Prim.Native.Nat.{_≤_};
 ghost use Rattle.standing.specs.Sides.{layoutAt, rowsAt, sideOf};
+use format::fields::LEFT_ROWS_AT;
+use format::fields::left_layout_at;
+use format::fields::right_layout_at;
+use format::fields::right_rows_at;
 
 // Where a side's rows begin.
 pub fn rows_at(n: u16, side: u16) -> usize
@@ -9,9 +13,9 @@ pub fn rows_at(n: u16, side: u16) -> usize
     ensures { λ r. ⌜ r ≡ rowsAt n (sideOf side) ⌝ }
 {
     if side == 1 {
-        return 8;
+        return LEFT_ROWS_AT;
     }
-    8 + 4 * (n as usize - 1)
+    right_rows_at(n)
 }
 
 // Where a side's layout begins.
@@ -19,9 +23,8 @@ pub fn layout_at(n: u16, side: u16) -> usize
     requires { ⌜ 1 ≤ n ⌝ }
     ensures { λ r. ⌜ r ≡ layoutAt n (sideOf side) ⌝ }
 {
-    let k = n as usize;
     if side == 1 {
-        return 8 + 8 * (k - 1) + 2 * k;
+        return left_layout_at(n);
     }
-    8 + 8 * (k - 1) + 2 * k + (k - 1)
+    right_layout_at(n)
 }

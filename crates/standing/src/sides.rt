@@ -1,6 +1,9 @@
 // Sides as numbers: 1 is left and 2 is right. Which of them a hold letter holds.
 ghost use mathlib.Core.Path.{_≡_};
 ghost use Rattle.standing.specs.Sides.{holds, isSide, sideOf};
+use format::fields::BOTH;
+use format::fields::LEFT;
+use format::fields::RIGHT;
 
 // Whether x is 1 or 2.
 pub fn is_side(x: u16) -> bool
@@ -16,11 +19,11 @@ pub fn is_side(x: u16) -> bool
 pub fn is_held(hold: u8, side: u16) -> bool
     ensures { λ r. ⌜ r ≡ holds hold (sideOf side) ⌝ }
 {
-    if hold == b'B' {
+    if hold == BOTH {
         return true;
     }
     if side == 1 {
-        return hold == b'L';
+        return hold == LEFT;
     }
-    hold == b'R'
+    hold == RIGHT
 }

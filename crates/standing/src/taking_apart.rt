@@ -12,6 +12,7 @@ ghost use Rattle.trees.specs.Exchange.{LaidOut};
 use crate::places::layout_at;
 use crate::places::rows_at;
 use format::copying::bytes_in;
+use format::fields::links_at;
 
 // Fills a table with a side's rows, its layout applied.
 fn fill_side(s: &[u8], n: u16, side: u16, tab: &mut [u16; 1023])
@@ -64,7 +65,7 @@ pub fn take_orders(
 {
     side_order(s, n, 1, left);
     side_order(s, n, 2, right);
-    format::fill_links(s, 8 + 8 * (n as usize - 1), n, links);
+    format::fill_links(s, links_at(n), n, links);
 }
 
 // Writes both trees, their layouts and the links.
@@ -86,7 +87,7 @@ pub fn take_apart(
 {
     fill_side(s, n, 1, left);
     fill_side(s, n, 2, right);
-    format::fill_links(s, 8 + 8 * (n as usize - 1), n, links);
+    format::fill_links(s, links_at(n), n, links);
     fill_layout(s, n, 1, leftlay);
     fill_layout(s, n, 2, rightlay);
 }

@@ -14,9 +14,11 @@ use Rattle.format.specs.Meaning.{tableOf, layoutsOf, relaid}
 use Rattle.format.proofs.Acceptance.{else-first, none-both}
 use Rattle.format.proofs.Heading.{none-first, not-no}
 use Rattle.standing.specs.Sides.{isSide, sideOf, holds, Given}
+use Rattle.table.specs.declared.answers.Freed.{Freed}
+use Rattle.table.specs.declared.answers.Ran.{Ran}
 use Rattle.table.specs.Refusals.{freeing, noAllowance, running}
 use Rattle.standing.specs.Shown.{shownCount}
-use Rattle.table.specs.Calls.{freedLayouts, RecordFreed, Frees, RecordRan, Runs}
+use Rattle.table.specs.Calls.{freedLayouts, RecordFreed, freeTold, Frees, RecordRan, runTold, Runs}
 use Rattle.table.proofs.Freed.{freed-table, freed-layouts}
 
 -- ---- the refusals
@@ -49,9 +51,8 @@ module _ (s : List ℕ) (side : ℕ) where
       let v = none-first (holds (holdOf s) (sideOf side)) 11 0 (omega arith) (u .1) in
       (not-no _ (t .0), u .0, v .0)
 
-  pub free-refused : {k : ℕ} → k ≡ freeing s side → k ≢ 0 →
-      Frees s side (record { refusal = record { number = k }; before = 0; after = 0 }) s
-  free-refused {k} e h = record { answers = rw (← e, ne-eqb k 0 h) refl; leaves = rw (← e, ne-eqb k 0 h) refl }
+  pub free-refused : {k : ℕ} {answer : Freed} → answer ≡ freeTold k 0 0 → k ≡ freeing s side → k ≢ 0 → Frees s side answer s
+  free-refused {k} t e h = record { answers = t ∙ rw (← e, ne-eqb k 0 h) refl; leaves = rw (← e, ne-eqb k 0 h) refl }
 
   -- the count of a record whose side was freed
   pub freed-count : {n : ℕ} → Given s n → shownCount (relaid s (freedLayouts s side)) ≡ crossings (tableOf s) (freedLayouts s side)
@@ -59,9 +60,9 @@ module _ (s : List ℕ) (side : ℕ) where
       ap (λ T. crossings T (layoutsOf (relaid s (freedLayouts s side)))) (freed-table s n g (sideOf side))
       ∙ ap (crossings (tableOf s)) (freed-layouts s n g (sideOf side))
 
-  pub free-accepted : {b a : ℕ} {s′ : List ℕ} → freeing s side ≡ 0 → RecordFreed s (sideOf side) b a s′ →
-      Frees s side (record { refusal = record { number = 0 }; before = b; after = a }) s′
-  free-accepted z f = record { answers = rw (z, f .counted, f .recounted) refl; leaves = f .leaves ∙ rw z refl }
+  pub free-accepted : {b a : ℕ} {answer : Freed} {s′ : List ℕ} → answer ≡ freeTold 0 b a → freeing s side ≡ 0 →
+      RecordFreed s (sideOf side) b a s′ → Frees s side answer s′
+  free-accepted t z f = record { answers = t ∙ rw (z, f .counted, f .recounted) refl; leaves = f .leaves ∙ rw z refl }
 
 -- ---- a run's refusals
 
@@ -100,14 +101,13 @@ module _ (s : List ℕ) (allowance : ℕ) where
       let w = none-first (holds (holdOf s) right) 11 0 (omega arith) (v .1) in
       (t .0, u .0, v .0, w .0)
 
-  pub run-refused : {k : ℕ} → k ≡ running s allowance → k ≢ 0 →
-      Runs s allowance (record { refusal = record { number = k }; first = 0; last = 0; turns = 0; settled = 0 }) s
-  run-refused {k} e h = record { answers = rw (← e, ne-eqb k 0 h) refl; leaves = rw (← e, ne-eqb k 0 h) refl }
+  pub run-refused : {k : ℕ} {answer : Ran} → answer ≡ runTold k 0 0 0 0 → k ≡ running s allowance → k ≢ 0 → Runs s allowance answer s
+  run-refused {k} t e h = record { answers = t ∙ rw (← e, ne-eqb k 0 h) refl; leaves = rw (← e, ne-eqb k 0 h) refl }
 
-  pub run-accepted : {f l t w : ℕ} {s′ : List ℕ} → running s allowance ≡ 0 → RecordRan s allowance f l t w s′ →
-      Runs s allowance (record { refusal = record { number = 0 }; first = f; last = l; turns = t; settled = w }) s′
-  run-accepted z e = record {
-    answers = rw (z, e .first-count, e .last-count, e .taken, e .ended) refl;
+  pub run-accepted : {f l t w : ℕ} {answer : Ran} {s′ : List ℕ} → answer ≡ runTold 0 f l t w → running s allowance ≡ 0 →
+      RecordRan s allowance f l t w s′ → Runs s allowance answer s′
+  run-accepted told z e = record {
+    answers = told ∙ rw (z, e .first-count, e .last-count, e .taken, e .ended) refl;
     leaves = e .leaves ∙ rw z refl;
   }
 

@@ -26,6 +26,10 @@ pub record RecordFreed (s : List ℕ) (side : Side) (before after : ℕ) (s′ :
 abbrev pub freedLayouts : List ℕ → ℕ → Layouts
 freedLayouts s side = free (tableOf s) (sideOf side) (layoutsOf s)
 
+-- Freeing with a refusal's number.
+abbrev pub freeTold : ℕ → ℕ → ℕ → Freed
+freeTold k b a = record { refusal = refused k; before = b; after = a }
+
 pub record Frees (s : List ℕ) (side : ℕ) (answer : Freed) (s′ : List ℕ) : Type 0 where
   pub answers : answer ≡ record {
     refusal = refused (freeing s side);
@@ -46,6 +50,10 @@ pub record RecordRan (s : List ℕ) (allowance first last turns settled : ℕ) (
   pub taken : turns ≡ ranTo s allowance .turns
   pub ended : settled ≡ bit (ranTo s allowance .settled)
   pub leaves : s′ ≡ relaid s (ranTo s allowance .last)
+
+-- A run with a refusal's number.
+abbrev pub runTold : ℕ → ℕ → ℕ → ℕ → ℕ → Ran
+runTold k f l t w = record { refusal = refused k; first = f; last = l; turns = t; settled = w }
 
 pub record Runs (s : List ℕ) (allowance : ℕ) (answer : Ran) (s′ : List ℕ) : Type 0 where
   pub answers : answer ≡ record {

@@ -4,11 +4,14 @@ ghost use Rattle.table.specs.Calls.{Frees, Runs};
 ghost use Rattle.table.specs.Refusals.{freeing, running};
 use crate::answers::Freed;
 use crate::answers::Ran;
+use crate::answers::tell_free;
+use crate::answers::tell_run;
 use crate::working::free_side;
 use crate::working::take_turns;
+use format::fields::HOLD_AT;
+use format::fields::MOST_TURNS;
 use format::refusal::ALLOWANCE;
 use format::refusal::HELD;
-use format::refusal::Refusal;
 use format::refusal::SIDE;
 use standing::is_held;
 use standing::is_side;
@@ -24,7 +27,7 @@ fn freeing_number(s: &[u8], side: u16) -> u16
     if k != 0 {
         return k;
     }
-    if is_held(s[5], side) {
+    if is_held(s[HOLD_AT], side) {
         return HELD;
     }
     0
@@ -37,19 +40,11 @@ pub fn free(s: &mut [u8], side: u16) -> Freed
 {
     let k = freeing_number(s, side);
     if k != 0 {
-        return Freed {
-            refusal: Refusal { number: k },
-            before: 0,
-            after: 0,
-        };
+        return tell_free(k, 0, 0);
     }
     let n = record::size_of(s);
     let turn = free_side(s, n, side);
-    Freed {
-        refusal: Refusal { number: 0 },
-        before: turn.before,
-        after: turn.after,
-    }
+    tell_free(0, turn.before, turn.after)
 }
 
 // The refusal of a run, or 0.
@@ -59,17 +54,17 @@ fn running_number(s: &[u8], allowance: u32) -> u16
     if allowance == 0 {
         return ALLOWANCE;
     }
-    if 130818 < allowance {
+    if MOST_TURNS < allowance {
         return ALLOWANCE;
     }
     let k = record::refusal_number(s);
     if k != 0 {
         return k;
     }
-    if is_held(s[5], 1) {
+    if is_held(s[HOLD_AT], 1) {
         return HELD;
     }
-    if is_held(s[5], 2) {
+    if is_held(s[HOLD_AT], 2) {
         return HELD;
     }
     0
@@ -82,21 +77,9 @@ pub fn run(s: &mut [u8], allowance: u32) -> Ran
 {
     let k = running_number(s, allowance);
     if k != 0 {
-        return Ran {
-            refusal: Refusal { number: k },
-            first: 0,
-            last: 0,
-            turns: 0,
-            settled: 0,
-        };
+        return tell_run(k, 0, 0, 0, 0);
     }
     let n = record::size_of(s);
     let taken = take_turns(s, n, allowance);
-    Ran {
-        refusal: Refusal { number: 0 },
-        first: taken.first,
-        last: taken.last,
-        turns: taken.turns,
-        settled: taken.settled,
-    }
+    tell_run(0, taken.first, taken.last, taken.turns, taken.settled)
 }

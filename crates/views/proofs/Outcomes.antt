@@ -23,24 +23,26 @@ use Rattle.views.specs.declared.answers.Entangled.the-variants.{Ratio, N
 use Rattle.standing.specs.Sides.{isSide, sideOf}
 use Rattle.views.specs.Refusals.{ordering}
 use Rattle.standing.specs.Shown.{shownOrder, shownCount}
-use Rattle.views.specs.Calls.{Orders, Counts, ratio, entangled, Entangles}
+use Rattle.format.specs.declared.refusal.Refusal.{Refusal}
+use Rattle.views.specs.declared.answers.Counted.{Counted}
+use Rattle.views.specs.Calls.{Orders, countTold, Counts, ratio, entangled, Entangles}
 use Rattle.standing.proofs.AsItStands.{side-perm, given-size}
 use Rattle.standing.proofs.Apart.{order-taken}
 
 module _ (s : List ℕ) where
   -- ---- counts
 
-  pub count-refused : {k : ℕ} → k ≡ refusal s → k ≢ 0 → Counts s (record { refusal = record { number = k }; count = 0 })
-  count-refused {k} e h = record { answers = rw (← e, ne-eqb k 0 h) refl }
+  pub count-refused : {k : ℕ} {answer : Counted} → answer ≡ countTold k 0 → k ≡ refusal s → k ≢ 0 → Counts s answer
+  count-refused {k} t e h = record { answers = t ∙ rw (← e, ne-eqb k 0 h) refl }
 
-  pub count-accepted : {r : ℕ} → refusal s ≡ 0 → r ≡ shownCount s → Counts s (record { refusal = record { number = 0 }; count = r })
-  count-accepted a e = record { answers = rw (a, e) refl }
+  pub count-accepted : {r : ℕ} {answer : Counted} → answer ≡ countTold 0 r → refusal s ≡ 0 → r ≡ shownCount s → Counts s answer
+  count-accepted t a e = record { answers = t ∙ rw (a, e) refl }
 
   -- ---- entanglement
 
-  pub entangled-refused : {k : ℕ} → k ≡ refusal s → k ≢ 0 → Entangles s (Refused (record { number = k }))
+  pub entangled-refused : {k : ℕ} {told : Refusal} → told ≡ refused k → k ≡ refusal s → k ≢ 0 → Entangles s (Refused told)
   unfolding entangled
-  entangled-refused {k} e h = record { answers = rw (← e, ne-eqb k 0 h) refl }
+  entangled-refused {k} t e h = record { answers = ap Refused t ∙ rw (← e, ne-eqb k 0 h) refl }
 
   module _ (a : refusal s ≡ 0) {n : ℕ} (e : n ≡ sizeOf s) where
     pub entangled-none : n ≡ 1 → Entangles s NoRatio
@@ -82,18 +84,18 @@ module _ (s : List ℕ) (side : ℕ) (out : List ℕ) where
       let v = none-first (ltb (length out) (sizeOf s)) 14 0 (omega arith) (u .1) in
       (not-no _ (t .0), u .0, ltb-false _ _ (v .0))
 
-  pub order-refused : {k : ℕ} → k ≡ ordering s side out → k ≢ 0 → Orders s side out (record { number = k }) out
-  order-refused {k} e h = record { answers = ap refused e; leaves = rw (← e) (lent-refused k (shownOrder s (sideOf side)) out h) }
+  pub order-refused : {k : ℕ} {told : Refusal} → told ≡ refused k → k ≡ ordering s side out → k ≢ 0 → Orders s side out told out
+  order-refused {k} t e h = record { answers = t ∙ ap refused e; leaves = rw (← e) (lent-refused k (shownOrder s (sideOf side)) out h) }
 
-  pub order-accepted : (n : ℕ) (A found after : List ℕ) → ordering s side out ≡ 0 → n ≡ sizeOf s →
-      A ≡ shownOrder s (sideOf side) ++ drop n found → after ≡ sets out 0 (take n A) → Orders s side out (record { number = 0 }) after
-  order-accepted n A found after a e h w =
+  pub order-accepted : (n : ℕ) (A found after : List ℕ) {told : Refusal} → told ≡ refused 0 → ordering s side out ≡ 0 → n ≡ sizeOf s →
+      A ≡ shownOrder s (sideOf side) ++ drop n found → after ≡ sets out 0 (take n A) → Orders s side out told after
+  order-accepted n A found after t a e h w =
       let good = ordering-good a in
       let g = given-size s (good .1) e in
       let taken = order-taken s n g (sideOf side) A found h in
       let long = all-length n _ (side-perm s n g (sideOf side)) in
       record {
-        answers = ap refused (sym a);
+        answers = t ∙ ap refused (sym a);
         leaves =
             w ∙ ap (sets out 0) taken
             ∙ sets-front out (shownOrder s (sideOf side)) (omega (arith, good .2, long))

@@ -24,6 +24,10 @@ pub record Orders (s : List ℕ) (side : ℕ) (out : List ℕ) (answer : Refusal
   pub answers : answer ≡ refused (ordering s side out)
   pub leaves : out′ ≡ lent (ordering s side out) (shownOrder s (sideOf side)) out
 
+-- A count with a refusal's number.
+abbrev pub countTold : ℕ → ℕ → Counted
+countTold k c = record { refusal = refused k; count = c }
+
 pub record Counts (s : List ℕ) (answer : Counted) : Type 0 where
   pub answers : answer ≡ record { refusal = refused (refusal s); count = orZero (refusal s) (shownCount s) }
 

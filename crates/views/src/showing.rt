@@ -4,6 +4,7 @@ ghost use Rattle.views.specs.Calls.{Counts, Entangles, Orders};
 ghost use Rattle.views.specs.Refusals.{ordering};
 use crate::answers::Counted;
 use crate::answers::Entangled;
+use crate::answers::tell_count;
 use crate::counting::crossings_paired;
 use crate::counting::crossings_seen;
 use crate::counting::displacement_of;
@@ -11,6 +12,7 @@ use format::copying::copied;
 use format::refusal::ROOM;
 use format::refusal::Refusal;
 use format::refusal::SIDE;
+use format::refusal::refused;
 use standing::is_side;
 use standing::side_order;
 
@@ -37,13 +39,13 @@ pub fn order(s: &[u8], side: u16, out: &mut [u16]) -> Refusal
 {
     let k = ordering_number(s, side, out);
     if k != 0 {
-        return Refusal { number: k };
+        return refused(k);
     }
     let n = record::size_of(s);
     let mut made = [0u16; 512];
     side_order(s, n, side, &mut made);
     copied(&made[..n as usize], out);
-    Refusal { number: 0 }
+    refused(0)
 }
 
 // The count of any bytes' crossings by seen places, or the refusal.
@@ -52,15 +54,9 @@ pub fn count(s: &[u8]) -> Counted
 {
     let k = record::refusal_number(s);
     if k != 0 {
-        return Counted {
-            refusal: Refusal { number: k },
-            count: 0,
-        };
+        return tell_count(k, 0);
     }
-    Counted {
-        refusal: Refusal { number: 0 },
-        count: crossings_seen(s, record::size_of(s)),
-    }
+    tell_count(0, crossings_seen(s, record::size_of(s)))
 }
 
 // The same, pair by pair.
@@ -69,15 +65,9 @@ pub fn pairs(s: &[u8]) -> Counted
 {
     let k = record::refusal_number(s);
     if k != 0 {
-        return Counted {
-            refusal: Refusal { number: k },
-            count: 0,
-        };
+        return tell_count(k, 0);
     }
-    Counted {
-        refusal: Refusal { number: 0 },
-        count: crossings_paired(s, record::size_of(s)),
-    }
+    tell_count(0, crossings_paired(s, record::size_of(s)))
 }
 
 // The entanglement of any bytes: D, W and their ratio, or no ratio for a single leaf, or the refusal.
@@ -86,7 +76,7 @@ pub fn entanglement(s: &[u8]) -> Entangled
 {
     let k = record::refusal_number(s);
     if k != 0 {
-        return Entangled::Refused(Refusal { number: k });
+        return Entangled::Refused(refused(k));
     }
     let n = record::size_of(s);
     if n == 1 {

@@ -22,8 +22,13 @@ at-start c = ready _ _ _ _ (none c) (c .size-of .ensures)
 comparing-number-requires : tie.Need-comparing-number-requires
 comparing-number-requires c κs = search needs
 
+tell-compared-requires : tie.Need-tell-compared-requires
+tell-compared-requires c κs = search needs
+
 returns : tie.Need-returns
-returns c = compare-refused _ _ _ _ (c .before .comparing-number .ensures) (c .if1 .taken)
+returns c =
+    let t = c .before in
+    compare-refused _ _ _ _ (c .tell-compared .ensures) (t .before .comparing-number .ensures) (t .if1 .taken)
 
 size-of-requires : tie.Need-size-of-requires
 size-of-requires c κs = long-enough _ (ready _ _ _ _ (sym (c .before .comparing-number .ensures) ∙ c .if1 .left) refl .given .accepted)
@@ -34,28 +39,41 @@ count-with-requires c κs = let h = at-start c in (h .given, (h .sided, h .good-
 count-with-requires-2 : tie.Need-count-with-requires-2
 count-with-requires-2 c κs = let h = at-start (c .before) in (h .given, (h .sided, h .good-second))
 
+tell-compared-requires-2 : tie.Need-tell-compared-requires-2
+tell-compared-requires-2 c κs = search needs
+
 returns-2 : tie.Need-returns-2
 returns-2 c =
-    let b = c .before in
+    let t = c .before in
+    let b = t .before in
     let a = b .before in
     let v = a .before in
-    compare-second _ _ _ _ (none v) (v .size-of .ensures) (a .count-with .ensures) (b .count-with2 .ensures) (c .if2 .taken)
+    compare-second _ _ _ _ (none v) (v .size-of .ensures) (a .count-with .ensures) (b .count-with2 .ensures) (c .tell-compared2 .ensures)
+    (t .if2 .taken)
+
+tell-compared-requires-3 : tie.Need-tell-compared-requires-3
+tell-compared-requires-3 c κs = search needs
 
 returns-3 : tie.Need-returns-3
 returns-3 c =
-    let b = c .before in
+    let t = c .before in
+    let b = t .before in
     let a = b .before in
     let v = a .before in
-    compare-first _ _ _ _ (none v) (v .size-of .ensures) (a .count-with .ensures) (b .count-with2 .ensures) (c .if2 .left)
+    compare-first _ _ _ _ (none v) (v .size-of .ensures) (a .count-with .ensures) (b .count-with2 .ensures) (c .tell-compared3 .ensures)
+    (t .if2 .left)
 
 pub compare-spec : {M : Type 1} → statement M
 compare-spec =
     tie.close
     (tie.spec
     comparing-number-requires
+    tell-compared-requires
     returns
     size-of-requires
     count-with-requires
     count-with-requires-2
+    tell-compared-requires-2
     returns-2
+    tell-compared-requires-3
     returns-3)

@@ -22,33 +22,33 @@ use Rattle.proposals.proofs.comparing.count_with.Tie as tie
 -- ---- the arrays
 
 abbrev startOf : tie.After-fill-links → tie.Start
-startOf c = c .before .before .before .before .before .before .before .before .before .before
+startOf c = c .before .before .before .before .before .before .before .before .before .before .before
 
 module _ (c : tie.After-fill-links) where
   abbrev its : tie.Start
   its = startOf c
 
-  copied-order : take (its .args .n) (c .before .before .before .before .before .copied .last .1 .0) ≡ take (its .args .n) (its .args .xs .now)
+  copied-order : take (its .args .n) (c .before .before .before .before .before .before .copied .last .1 .0) ≡ take (its .args .n) (its .args .xs .now)
   copied-order =
       let g = its .pre .0 in
       let side = sideOf (its .args .side) in
       let good = its .pre .1 .1 in
-      copy-taken _ _ g side _ _ _ refl (order-within _ _ g side _ good) (c .before .before .before .before .before .copied .ensures)
+      copy-taken _ _ g side _ _ _ refl (order-within _ _ g side _ good) (c .before .before .before .before .before .before .copied .ensures)
 
-  copied-one : OneToN (its .args .n) (c .before .before .before .before .before .copied .last .1 .0)
-  copied-one = copy-one _ _ (its .pre .0) (sideOf (its .args .side)) _ (its .pre .1 .1) _ _ refl (c .before .before .before .before .before .copied .ensures)
+  copied-one : OneToN (its .args .n) (c .before .before .before .before .before .before .copied .last .1 .0)
+  copied-one = copy-one _ _ (its .pre .0) (sideOf (its .args .side)) _ (its .pre .1 .1) _ _ refl (c .before .before .before .before .before .before .copied .ensures)
 
-  other-taken : take (its .args .n) (c .before .before .side-order .last .1 .1 .1 .0) ≡ shownOrder (its .args .s .now) (sideOf (3 - its .args .side))
-  other-taken = order-taken _ _ (its .pre .0) (sideOf (3 - its .args .side)) _ _ (c .before .before .side-order .ensures)
+  other-taken : take (its .args .n) (c .before .before .before .side-order .last .1 .1 .1 .0) ≡ shownOrder (its .args .s .now) (sideOf (3 - its .args .side))
+  other-taken = order-taken _ _ (its .pre .0) (sideOf (3 - its .args .side)) _ _ (c .before .before .before .side-order .ensures)
 
-  other-one : OneToN (its .args .n) (c .before .before .side-order .last .1 .1 .1 .0)
-  other-one = order-one _ _ (its .pre .0) (sideOf (3 - its .args .side)) _ _ (c .before .before .side-order .ensures)
+  other-one : OneToN (its .args .n) (c .before .before .before .side-order .last .1 .1 .1 .0)
+  other-one = order-one _ _ (its .pre .0) (sideOf (3 - its .args .side)) _ _ (c .before .before .before .side-order .ensures)
 
   its-links : take (its .args .n) (c .fill-links .last .1 .1 .1 .0) ≡ parts (its .args .s .now) .links
-  its-links = let most = its .pre .0 .sized .most in links-taken _ _ (its .pre .0) _ _ (omega arith) (c .fill-links .ensures)
+  its-links = let most = its .pre .0 .sized .most in links-taken _ _ (its .pre .0) _ _ (omega arith) _ (c .before .before .links-at .ensures) (c .fill-links .ensures)
 
   linked : OneToN (its .args .n) (c .fill-links .last .1 .1 .1 .0)
-  linked = let most = its .pre .0 .sized .most in links-one _ _ (its .pre .0) _ _ (omega arith) (c .fill-links .ensures)
+  linked = let most = its .pre .0 .sized .most in links-one _ _ (its .pre .0) _ _ (omega arith) _ (c .before .before .links-at .ensures) (c .fill-links .ensures)
 
 -- ---- the needs
 
@@ -73,21 +73,15 @@ sub-side-order c =
 side-order-requires : tie.Need-side-order-requires
 side-order-requires c κs = search needs
 
-sub-fill-links : tie.Need-sub-fill-links
-sub-fill-links c = search needs
-
-mul-fill-links : tie.Need-mul-fill-links
-mul-fill-links c = search needs
-
-add-fill-links : tie.Need-add-fill-links
-add-fill-links c = search needs
+links-at-requires : tie.Need-links-at-requires
+links-at-requires c κs = search needs
 
 fill-links-requires : tie.Need-fill-links-requires
 fill-links-requires c κs =
-    let g = c .before .before .before .before .before .before .before .before .before .pre .0 in
+    let g = c .before .before .before .before .before .before .before .before .before .before .pre .0 in
     let whole = g .sized .whole in
     let some = g .sized .some in
-    (g .sized .most, omega arith, refl)
+    (g .sized .most, omega (arith, c .before .links-at .ensures), refl)
 
 crossings-seen-requires : tie.Need-crossings-seen-requires
 crossings-seen-requires c κs =
@@ -128,9 +122,7 @@ count-with-spec =
     copied-requires
     sub-side-order
     side-order-requires
-    sub-fill-links
-    mul-fill-links
-    add-fill-links
+    links-at-requires
     fill-links-requires
     crossings-seen-requires
     returns

@@ -13,22 +13,16 @@ fill-side-requires c κs = search needs
 fill-side-requires-2 : tie.Need-fill-side-requires-2
 fill-side-requires-2 c κs = search needs
 
-sub-fill-links : tie.Need-sub-fill-links
-sub-fill-links c = search needs
-
-mul-fill-links : tie.Need-mul-fill-links
-mul-fill-links c = search needs
-
-add-fill-links : tie.Need-add-fill-links
-add-fill-links c = search needs
+links-at-requires : tie.Need-links-at-requires
+links-at-requires c κs = search needs
 
 fill-links-requires : tie.Need-fill-links-requires
 fill-links-requires c κs =
-    let z = c .before .before .before .before .before .before .before .before in
+    let z = c .before .before .before .before .before .before .before .before .before in
     let g = z .pre .0 .0 in
     let whole = g .sized .whole in
     let some = g .sized .some in
-    (g .sized .most, omega arith, z .pre .1 .2)
+    (g .sized .most, omega (arith, c .before .links-at .ensures), z .pre .1 .2)
 
 fill-layout-requires : tie.Need-fill-layout-requires
 fill-layout-requires c κs = search needs
@@ -47,7 +41,8 @@ returns c =
     let r = c .before .before in
     let l = r .before .before .before .before in
     let k = l .before .before in
-    let b = k .before .before in
+    let at = k .before .before .links-at .ensures in
+    let b = k .before .before .before in
     let a = b .before .before in
     let z = a .before .before .before .before .before in
     let g = z .pre .0 .0 in
@@ -58,9 +53,9 @@ returns c =
       memory = record {
         left-side = rw (l .fill-layout .ensures) (a .fill-side .ensures);
         right-side = rw (r .fill-layout2 .ensures) (b .fill-side2 .ensures);
-        one-to-one = links-one _ _ g _ _ (omega arith) e;
+        one-to-one = links-one _ _ g _ _ (omega arith) _ at e;
       };
-      its-links = links-taken _ _ g _ _ (omega arith) e;
+      its-links = links-taken _ _ g _ _ (omega arith) _ at e;
       its-layouts = ap₂ layoutsFrom (l .fill-layout .ensures) (r .fill-layout2 .ensures);
     }
 
@@ -70,9 +65,7 @@ take-apart-spec =
     (tie.spec
     fill-side-requires
     fill-side-requires-2
-    sub-fill-links
-    mul-fill-links
-    add-fill-links
+    links-at-requires
     fill-links-requires
     fill-layout-requires
     fill-layout-requires-2

@@ -12,26 +12,21 @@ side-order-requires c κs = search needs
 side-order-requires-2 : tie.Need-side-order-requires-2
 side-order-requires-2 c κs = search needs
 
-sub-fill-links : tie.Need-sub-fill-links
-sub-fill-links c = search needs
-
-mul-fill-links : tie.Need-mul-fill-links
-mul-fill-links c = search needs
-
-add-fill-links : tie.Need-add-fill-links
-add-fill-links c = search needs
+links-at-requires : tie.Need-links-at-requires
+links-at-requires c κs = search needs
 
 fill-links-requires : tie.Need-fill-links-requires
 fill-links-requires c κs =
-    let z = c .before .before .before .before .before .before in
+    let z = c .before .before .before .before .before .before .before in
     let g = z .pre .0 in
     let whole = g .sized .whole in
     let some = g .sized .some in
-    (g .sized .most, omega arith, z .pre .1 .2)
+    (g .sized .most, omega (arith, c .before .links-at .ensures), z .pre .1 .2)
 
 returns : tie.Need-returns
 returns c =
-    let r = c .before .before in
+    let at = c .before .before .links-at .ensures in
+    let r = c .before .before .before in
     let l = r .before .before in
     let z = l .before .before .before in
     let g = z .pre .0 in
@@ -43,10 +38,10 @@ returns c =
     record {
       left-order = order-taken _ _ g left _ _ a;
       right-order = order-taken _ _ g right _ _ b;
-      its-links = links-taken _ _ g _ _ (omega arith) e;
+      its-links = links-taken _ _ g _ _ (omega arith) _ at e;
       between = record {
         most = most;
-        linked = links-one _ _ g _ _ (omega arith) e;
+        linked = links-one _ _ g _ _ (omega arith) _ at e;
         left-order = order-one _ _ g left _ _ a;
         right-order = order-one _ _ g right _ _ b;
       };
@@ -58,8 +53,6 @@ take-orders-spec =
     (tie.spec
     side-order-requires
     side-order-requires-2
-    sub-fill-links
-    mul-fill-links
-    add-fill-links
+    links-at-requires
     fill-links-requires
     returns)

@@ -9,11 +9,16 @@ use Rattle.table.proofs.taking_turns.free.Tie as tie
 freeing-number-requires : tie.Need-freeing-number-requires
 freeing-number-requires c κs = search needs
 
+tell-free-requires : tie.Need-tell-free-requires
+tell-free-requires c κs = search needs
+
 same-length : tie.Need-same-length
 same-length c = search needs
 
 returns : tie.Need-returns
-returns c = free-refused _ _ (c .before .freeing-number .ensures) (c .if1 .taken)
+returns c =
+    let t = c .before in
+    free-refused _ _ (c .tell-free .ensures) (t .before .freeing-number .ensures) (t .if1 .taken)
 
 size-of-requires : tie.Need-size-of-requires
 size-of-requires c κs =
@@ -26,23 +31,28 @@ free-side-requires c κs =
     let a = freeing-good _ _ (sym (p .before .freeing-number .ensures) ∙ p .if1 .left) in
     (given-size _ (a .1) (c .before .size-of .ensures), a .0)
 
+tell-free-requires-2 : tie.Need-tell-free-requires-2
+tell-free-requires-2 c κs = search needs
+
 same-length-2 : tie.Need-same-length-2
 same-length-2 c = search needs
 
 returns-2 : tie.Need-returns-2
 returns-2 c =
-    let v = c .before .before in
+    let v = c .before .before .before in
     let p = v .before .before .before .before in
-    free-accepted _ _ (sym (p .before .freeing-number .ensures) ∙ p .if1 .left) (v .free-side .ensures)
+    free-accepted _ _ (c .tell-free2 .ensures) (sym (p .before .freeing-number .ensures) ∙ p .if1 .left) (v .free-side .ensures)
 
 pub free-spec : {M : Type 1} → statement M
 free-spec =
     tie.close
     (tie.spec
     freeing-number-requires
+    tell-free-requires
     same-length
     returns
     size-of-requires
     free-side-requires
+    tell-free-requires-2
     same-length-2
     returns-2)

@@ -9,11 +9,16 @@ use Rattle.table.proofs.taking_turns.run.Tie as tie
 running-number-requires : tie.Need-running-number-requires
 running-number-requires c κs = search needs
 
+tell-run-requires : tie.Need-tell-run-requires
+tell-run-requires c κs = search needs
+
 same-length : tie.Need-same-length
 same-length c = search needs
 
 returns : tie.Need-returns
-returns c = run-refused _ _ (c .before .running-number .ensures) (c .if1 .taken)
+returns c =
+    let t = c .before in
+    run-refused _ _ (c .tell-run .ensures) (t .before .running-number .ensures) (t .if1 .taken)
 
 size-of-requires : tie.Need-size-of-requires
 size-of-requires c κs =
@@ -26,23 +31,28 @@ take-turns-requires c κs =
     let a = running-good _ _ (sym (p .before .running-number .ensures) ∙ p .if1 .left) in
     (given-size _ (a .1) (c .before .size-of .ensures), allowance-some _ (a .0))
 
+tell-run-requires-2 : tie.Need-tell-run-requires-2
+tell-run-requires-2 c κs = search needs
+
 same-length-2 : tie.Need-same-length-2
 same-length-2 c = search needs
 
 returns-2 : tie.Need-returns-2
 returns-2 c =
-    let v = c .before .before in
+    let v = c .before .before .before in
     let p = v .before .before .before .before in
-    run-accepted _ _ (sym (p .before .running-number .ensures) ∙ p .if1 .left) (v .take-turns .ensures)
+    run-accepted _ _ (c .tell-run2 .ensures) (sym (p .before .running-number .ensures) ∙ p .if1 .left) (v .take-turns .ensures)
 
 pub run-spec : {M : Type 1} → statement M
 run-spec =
     tie.close
     (tie.spec
     running-number-requires
+    tell-run-requires
     same-length
     returns
     size-of-requires
     take-turns-requires
+    tell-run-requires-2
     same-length-2
     returns-2)

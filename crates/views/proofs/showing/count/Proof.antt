@@ -10,7 +10,12 @@ refusal-number-requires : tie.Need-refusal-number-requires
 refusal-number-requires c κs = search needs
 
 returns : tie.Need-returns
-returns c = count-refused _ (c .before .refusal-number .ensures) (c .if1 .taken)
+returns c =
+    let t = c .before in
+    count-refused _ (c .tell-count .ensures) (t .before .refusal-number .ensures) (t .if1 .taken)
+
+tell-count-requires : tie.Need-tell-count-requires
+tell-count-requires c κs = search needs
 
 size-of-requires : tie.Need-size-of-requires
 size-of-requires c κs = long-enough _ (sym (c .before .refusal-number .ensures) ∙ c .if1 .left)
@@ -20,12 +25,16 @@ crossings-seen-requires c κs =
     let p = c .before in
     given-size _ (sym (p .before .refusal-number .ensures) ∙ p .if1 .left) (c .size-of .ensures)
 
+tell-count-requires-2 : tie.Need-tell-count-requires-2
+tell-count-requires-2 c κs = search needs
+
 returns-2 : tie.Need-returns-2
 returns-2 c =
-    let p = c .before .before in
-    count-accepted _ (sym (p .before .refusal-number .ensures) ∙ p .if1 .left) (c .crossings-seen .ensures)
+    let v = c .before in
+    let p = v .before .before in
+    count-accepted _ (c .tell-count2 .ensures) (sym (p .before .refusal-number .ensures) ∙ p .if1 .left) (v .crossings-seen .ensures)
 
 pub count-spec : {M : Type 1} → statement M
 count-spec =
     tie.close
-    (tie.spec refusal-number-requires returns size-of-requires crossings-seen-requires returns-2)
+    (tie.spec refusal-number-requires tell-count-requires returns size-of-requires crossings-seen-requires tell-count-requires-2 returns-2)

@@ -10,8 +10,13 @@ use Rattle.views.proofs.showing.entanglement.Tie as tie
 refusal-number-requires : tie.Need-refusal-number-requires
 refusal-number-requires c κs = search needs
 
+refused-requires : tie.Need-refused-requires
+refused-requires c κs = search needs
+
 returns : tie.Need-returns
-returns c = entangled-refused _ (c .before .refusal-number .ensures) (c .if1 .taken)
+returns c =
+    let t = c .before in
+    entangled-refused _ (c .refused .ensures) (t .before .refusal-number .ensures) (t .if1 .taken)
 
 size-of-requires : tie.Need-size-of-requires
 size-of-requires c κs = long-enough _ (sym (c .before .refusal-number .ensures) ∙ c .if1 .left)
@@ -53,6 +58,7 @@ entanglement-spec =
     tie.close
     (tie.spec
     refusal-number-requires
+    refused-requires
     returns
     size-of-requires
     returns-2

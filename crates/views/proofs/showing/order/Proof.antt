@@ -13,11 +13,16 @@ use Rattle.views.proofs.showing.order.Tie as tie
 ordering-number-requires : tie.Need-ordering-number-requires
 ordering-number-requires c κs = search needs
 
+refused-requires : tie.Need-refused-requires
+refused-requires c κs = search needs
+
 same-length : tie.Need-same-length
 same-length c = search needs
 
 returns : tie.Need-returns
-returns c = order-refused _ _ _ (c .before .ordering-number .ensures) (c .if1 .taken)
+returns c =
+    let t = c .before in
+    order-refused _ _ _ (c .refused .ensures) (t .before .ordering-number .ensures) (t .if1 .taken)
 
 size-of-requires : tie.Need-size-of-requires
 size-of-requires c κs =
@@ -51,23 +56,27 @@ copied-requires c κs =
     let a = ordering-good _ _ _ (sym (p .before .ordering-number .ensures) ∙ p .if1 .left) in
     omega (arith, a .2, q .size-of .ensures, slice-aggregate-copied (c .before))
 
+refused-requires-2 : tie.Need-refused-requires-2
+refused-requires-2 c κs = search needs
+
 same-length-2 : tie.Need-same-length-2
 same-length-2 c = search needs
 
 returns-2 : tie.Need-returns-2
 returns-2 c =
-    let v = c .before .before in
+    let v = c .before .before .before in
     let w = v .before .before .before in
     let q = w .before .before in
     let p = q .before in
     let a = sym (p .before .ordering-number .ensures) ∙ p .if1 .left in
-    order-accepted _ _ _ _ _ _ _ a (q .size-of .ensures) (w .side-order .ensures) (v .copied .ensures)
+    order-accepted _ _ _ _ _ _ _ (c .refused2 .ensures) a (q .size-of .ensures) (w .side-order .ensures) (v .copied .ensures)
 
 pub order-spec : {M : Type 1} → statement M
 order-spec =
     tie.close
     (tie.spec
     ordering-number-requires
+    refused-requires
     same-length
     returns
     size-of-requires
@@ -76,5 +85,6 @@ order-spec =
     array-share-prefix-made
     slice-aggregate-copied
     copied-requires
+    refused-requires-2
     same-length-2
     returns-2)
