@@ -1,13 +1,11 @@
 // The sheet of one record: reads it from standard input, shows it as it stands, runs it with the largest allowance and
 // shows it afterwards. A bad record prints only `REFUSED` and its number, a held one its first five lines and
 // `REFUSED 11`.
+use format::fields::MOST_TURNS;
 use record::reading::Header;
 use record::reading::Reading;
 use table::answers::Ran;
 use views::answers::Entangled;
-
-// The largest allowance of a run.
-const ALLOWANCE: u32 = 130818;
 
 // `REFUSED` and a refusal's number.
 fn refused(number: u16) {
@@ -102,7 +100,7 @@ fn sheet(s: &mut [u8]) {
     heading(header);
     orders(s, n);
     measures(s);
-    let ran = table::run(s, ALLOWANCE);
+    let ran = table::run(s, MOST_TURNS);
     let refusal = ran.refusal;
     if refusal.number != 0 {
         return refused(refusal.number);
