@@ -12,7 +12,7 @@ use Rattle.format.specs.Fields.{Parts, given, packed}
 use Rattle.format.specs.Refusals.{isHold, noSize, holding}
 use Rattle.record.specs.Calls.{SetsHold}
 use Rattle.format.specs.Refused.{refused}
-use Rattle.record.proofs.Outcomes.{lent-refused}
+use Rattle.format.proofs.Refused.{lent-refused}
 use Rattle.packing.specs.Refusals.{shape, packing}
 use Rattle.packing.specs.Calls.{Packs}
 use Rattle.standing.specs.Sides.{isSide}
