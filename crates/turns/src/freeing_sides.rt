@@ -134,30 +134,6 @@ pub fn take_turn(
     )
 }
 
-// Writes the order of a side.
-fn own_order(
-    left: &[u16; 1023],
-    right: &[u16; 1023],
-    leftmany: &[u16; 512],
-    rightmany: &[u16; 512],
-    leftorder: &mut [u16; 512],
-    rightorder: &mut [u16; 512],
-    side: u16,
-)
-    requires { ⌜ Good (now left) × Good (now right) × Counted (now left) (now leftmany) (now right) (now rightmany) ⌝ }
-    requires { ⌜ (length (now leftorder) ≡ 512) × (length (now rightorder) ≡ 512) ⌝ }
-    ensures { λ _. ⌜
-        orderIn (sideOf side) (now (left .entry)) (now (leftorder .exit)) (now (right .entry)) (now (rightorder .exit))
-        × (length (now (leftorder .exit)) ≡ 512) × (length (now (rightorder .exit)) ≡ 512)
-        ⌝ }
-{
-    if side == 1 {
-        leaf_order(left, leftmany, leftorder);
-        return;
-    }
-    leaf_order(right, rightmany, rightorder);
-}
-
 // Frees a side, in its table and in its layout; the other side stands. Answers the counts before and after, which are
 // the sums of the side's own crossings.
 pub fn free_side(
@@ -184,25 +160,28 @@ pub fn free_side(
     count_leaves(right, &mut rightmany);
     let mut leftorder = [0u16; 512];
     let mut rightorder = [0u16; 512];
-    own_order(
-        left,
-        right,
-        &leftmany,
-        &rightmany,
-        &mut leftorder,
-        &mut rightorder,
-        side,
-    );
-    take_turn(
+    if side == 1 {
+        leaf_order(left, &leftmany, &mut leftorder);
+        return free_left(
+            left,
+            right,
+            links,
+            leftlay,
+            &leftmany,
+            &rightmany,
+            &leftorder,
+            &mut rightorder,
+        );
+    }
+    leaf_order(right, &rightmany, &mut rightorder);
+    free_right(
         left,
         right,
         links,
-        leftlay,
         rightlay,
         &leftmany,
         &rightmany,
         &mut leftorder,
-        &mut rightorder,
-        side,
+        &rightorder,
     )
 }
