@@ -8,7 +8,7 @@ set -euo pipefail
 cd "$(dirname "$0")/../.."
 . host/measure/tools.sh
 x86_tools
-record=6142 order_limit=8192 limit=$((18432 + record))
+record=6142 order_limit=8192 limit=$((16384 + record))
 
 archive tangle
 linked target/measure/calls target/staticlib/libtangle.a host/measure/calls.c
