@@ -15,9 +15,14 @@ program() {
   "${emulator[@]}" "$tools/lib/ld-linux-x86-64.so.2" --library-path "$tools/lib" "target/bin/$1"
 }
 
-# built NAME: has rt prove and build a program, where it has not yet.
+# built NAME: has rt prove and build a program, where it has not yet; what is being proved is told on the standard error.
 built() {
-  [ -x "target/bin/$1" ] || rt check "$1" > "$out/$1.log" 2>&1 || { cat "$out/$1.log"; exit 1; }
+  [ -x "target/bin/$1" ] && return
+  echo "proving and building $1, which takes some minutes" >&2
+  if ! rt check "$1" 2>&1 | tee "$out/$1.log" | sed -un '/^rt:/p' >&2; then
+    cat "$out/$1.log" >&2
+    exit 1
+  fi
 }
 
 # Builds the peer, and the programs that it is compared with.

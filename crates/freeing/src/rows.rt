@@ -62,8 +62,8 @@ fn decide(tab: &mut [u16; 1023], lay: &mut [u8], row: usize, count: u32, other: 
     other
 }
 
-// Frees a side in memory, a table with the layout applied, its rows' leaf counts and its order: turns each row over,
-// from its present byte, exactly if that makes its own crossings strictly fewer, by the far places of the leaves' links.
+// Frees a side in memory, a table with the layout applied, its rows' leaf counts and its order: turns each row over
+// from its present byte exactly if that makes its own crossings strictly fewer, by the far places of the leaves' links.
 // The leaves under an object stand side by side in the order; `from` has the first one's place, for each leaf and for
 // each object whose row has been decided. Answers the sums of the rows' own crossings, which are all crossings of the
 // side.

@@ -55,7 +55,9 @@ module _ (s : List ℕ) (n : ℕ) (g : Given s n) where
   module _ (A found : List ℕ) (long : n ≤ length found) (at : ℕ) (here : at ≡ linksAt n) (e : A ≡ sets found 0 (numbers s at n)) where
     pub links-taken : take n A ≡ parts s .links
     links-taken =
-        ap (take n) (e ∙ ap (λ k. sets found 0 (numbers s k n)) here) ∙ take-sets found (numbers s (linksAt n) n) n (length-numbers s (linksAt n) n) long ∙ side-links s n g
+        ap (take n) (e ∙ ap (λ k. sets found 0 (numbers s k n)) here)
+        ∙ take-sets found (numbers s (linksAt n) n) n (length-numbers s (linksAt n) n) long
+        ∙ side-links s n g
 
     pub links-one : OneToN n A
     links-one = rw links-taken (linked-once s n g)

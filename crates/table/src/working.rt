@@ -41,7 +41,9 @@ pub fn free_side(s: &mut [u8], n: u16, side: u16) -> Sums
 fn run_apart(s: &mut [u8], n: u16, allowance: u32, leftlay: &mut [u8], rightlay: &mut [u8]) -> Taken
     requires { ⌜ Given (now s) n × (1 ≤ allowance) ⌝ }
     requires { ⌜ (length (now leftlay) + 1 ≡ n) × (length (now rightlay) + 1 ≡ n) ⌝ }
-    ensures { λ r. ⌜ RecordRan (now (s .entry)) allowance (r .first) (r .last) (r .turns) (r .settled) (now (s .exit)) ⌝ }
+    ensures { λ r. ⌜
+        RecordRan (now (s .entry)) allowance (r .first) (r .last) (r .turns) (r .settled) (now (s .exit))
+        ⌝ }
 {
     let mut left = [0u16; 1023];
     let mut right = [0u16; 1023];
@@ -55,7 +57,9 @@ fn run_apart(s: &mut [u8], n: u16, allowance: u32, leftlay: &mut [u8], rightlay:
 // Takes turns in the record, the left first: its layout bytes, and no other byte. Answers what the run comes to.
 pub fn take_turns(s: &mut [u8], n: u16, allowance: u32) -> Taken
     requires { ⌜ Given (now s) n × (1 ≤ allowance) ⌝ }
-    ensures { λ r. ⌜ RecordRan (now (s .entry)) allowance (r .first) (r .last) (r .turns) (r .settled) (now (s .exit)) ⌝ }
+    ensures { λ r. ⌜
+        RecordRan (now (s .entry)) allowance (r .first) (r .last) (r .turns) (r .settled) (now (s .exit))
+        ⌝ }
 {
     let m = n as usize - 1;
     let mut leftlay = [0u8; 512];

@@ -39,4 +39,7 @@ pub children-within : (T : List ℕ) → Good T → (i : ℕ) → 1 ≤ i → i 
     length (leaves (objectOf T (upper T i))) + length (leaves (objectOf T (lower T i))) ≤ size T
 children-within T good i p q =
     let all = length-leaves T good in
-    omega (arith, row-at T good (λ j u l. length (leaves u) + length (leaves l) ≤ length (leaves (treeOf T))) (leaves-within (treeOf T)) i p q)
+    omega (
+      arith,
+      row-at T good (λ j u l. length (leaves u) + length (leaves l) ≤ length (leaves (treeOf T))) (leaves-within (treeOf T)) i p q,
+    )

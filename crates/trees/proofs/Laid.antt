@@ -21,7 +21,9 @@ module _ (T lay W : List ℕ) (good : Good T) (laid : Laid T lay W) where
       let same = laid .same-size in record {
         some = rw same (good .some);
         most = rw same (good .most);
-        rule = rw same (exchanged-rule (size T) (upper T) (lower T) (upper W) (lower W) (λ i. turned (byte lay i)) (good .rule) (laid .entries));
+        rule =
+            let exchanged = exchanged-rule (size T) (upper T) (lower T) (upper W) (lower W) in
+            rw same (exchanged (λ i. turned (byte lay i)) (good .rule) (laid .entries));
       }
 
   -- the leaves under an object of it stand in the layout's order

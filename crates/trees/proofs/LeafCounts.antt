@@ -91,7 +91,9 @@ module _ (T : List ℕ) (good : Good T) where
               let most = good .most in
               let long = before .long in
               rw (e, sub-one i)
-              (getD-set-same many (pred i) (a + b) 0 (omega arith) ∙ ap₂ _+_ first-counted second-counted ∙ sym (under-row (size T) (upper T) (lower T) (good .rule) i p q))
+              (getD-set-same many (pred i) (a + b) 0 (omega arith)
+              ∙ ap₂ _+_ first-counted second-counted
+              ∙ sym (under-row (size T) (upper T) (lower T) (good .rule) i p q))
           go j c d (no e) = getD-set-other many (i - 1) (pred j) (a + b) 0 (omega arith) ∙ before .counts j c (omega arith)
 
   pub counted-all : (many : List ℕ) (i : ℕ) → CountedTo T many i → size T ≤ i → LeafCounts T many

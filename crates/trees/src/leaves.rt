@@ -1,5 +1,5 @@
-// Leaf orders: the leaves under an object, upper before lower. The walk enters the part with fewer leaves first, so that
-// the other call is a jump and at most ten are open at a time; and it goes over arrays of fixed length, since a
+// Leaf orders: the leaves under an object, upper before lower. The walk enters the part with fewer leaves first, so
+// that the other call is a jump and at most ten are open at a time; and it goes over arrays of fixed length, since a
 // reference to one is a single word. So it takes little of the stack, however deep the tree is.
 ghost use mathlib.Core.Path.{_≡_};
 ghost use Prim.Native.Nat.{_+_, _*_, _≤_, _<_};

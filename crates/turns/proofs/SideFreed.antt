@@ -109,7 +109,12 @@ module _ {t u : Tree} {n : ℕ} {links L l R r : List ℕ} (m : InMemory t u n l
           counted = count-before T memory-fair left (layoutsFrom l r) new b a;
           recounted = count-after T memory-fair left (layoutsFrom l r) new b a;
           leaves = ap (λ x. layoutsFrom x r) new;
-          holds = record { left-side = rw (m .left-side .sized, tree) at (f .laid); right-side = m .right-side; one-to-one = m .one-to-one };
+          holds =
+              record {
+                left-side = rw (m .left-side .sized, tree) at (f .laid);
+                right-side = m .right-side;
+                one-to-one = m .one-to-one;
+              };
         }
 
     pub right-freed : RowsFreed (seenRight (take n links) (leaves (treeOf L))) R r before after W′ lay′ →
@@ -126,7 +131,12 @@ module _ {t u : Tree} {n : ℕ} {links L l R r : List ℕ} (m : InMemory t u n l
           counted = count-before T memory-fair right (layoutsFrom l r) new b a;
           recounted = count-after T memory-fair right (layoutsFrom l r) new b a;
           leaves = ap (λ x. layoutsFrom l x) new;
-          holds = record { left-side = m .left-side; right-side = rw (m .right-side .sized, tree) at (f .laid); one-to-one = m .one-to-one };
+          holds =
+              record {
+                left-side = m .left-side;
+                right-side = rw (m .right-side .sized, tree) at (f .laid);
+                one-to-one = m .one-to-one;
+              };
         }
 
 -- ---- the trees as given, from the arrays as they are

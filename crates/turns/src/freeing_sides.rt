@@ -100,12 +100,13 @@ pub fn take_turn(
         ⌝ }
     ensures { λ r. ⌜
         SideFreed (givenTree (now (left .entry)) (now (leftlay .entry)))
-        (givenTree (now (right .entry)) (now (rightlay .entry))) (size (now (left .entry))) (now (links .entry)) (sideOf side)
-        (layoutsFrom (now (leftlay .entry)) (now (rightlay .entry))) (r .before) (r .after)
+        (givenTree (now (right .entry)) (now (rightlay .entry))) (size (now (left .entry))) (now (links .entry))
+        (sideOf side) (layoutsFrom (now (leftlay .entry)) (now (rightlay .entry))) (r .before) (r .after)
         (now (left .exit)) (now (leftlay .exit)) (now (right .exit)) (now (rightlay .exit))
         ⌝ }
     ensures { λ _. ⌜
-        orderIn (other (sideOf side)) (now (left .exit)) (now (leftorder .exit)) (now (right .exit)) (now (rightorder .exit))
+        orderIn (other (sideOf side)) (now (left .exit)) (now (leftorder .exit))
+        (now (right .exit)) (now (rightorder .exit))
         × (length (now (leftorder .exit)) ≡ 512) × (length (now (rightorder .exit)) ≡ 512)
         × Counted (now (left .exit)) (now (leftmany .entry)) (now (right .exit)) (now (rightmany .entry))
         ⌝ }
@@ -149,8 +150,8 @@ pub fn free_side(
     requires { ⌜ isSide side ≡ true ⌝ }
     ensures { λ r. ⌜
         SideFreed (givenTree (now (left .entry)) (now (leftlay .entry)))
-        (givenTree (now (right .entry)) (now (rightlay .entry))) (size (now (left .entry))) (now (links .entry)) (sideOf side)
-        (layoutsFrom (now (leftlay .entry)) (now (rightlay .entry))) (r .before) (r .after)
+        (givenTree (now (right .entry)) (now (rightlay .entry))) (size (now (left .entry))) (now (links .entry))
+        (sideOf side) (layoutsFrom (now (leftlay .entry)) (now (rightlay .entry))) (r .before) (r .after)
         (now (left .exit)) (now (leftlay .exit)) (now (right .exit)) (now (rightlay .exit))
         ⌝ }
 {

@@ -46,7 +46,8 @@ fn go_on(
         × (1 ≤ allowance)
         ⌝ }
     ensures { λ r. ⌜
-        GoneOn (givenTree (now (left .entry)) (now (leftlay .entry))) (givenTree (now (right .entry)) (now (rightlay .entry)))
+        GoneOn (givenTree (now (left .entry)) (now (leftlay .entry)))
+        (givenTree (now (right .entry)) (now (rightlay .entry)))
         (size (now (left .entry))) (now (links .entry)) (layoutsFrom (now (leftlay .entry)) (now (rightlay .entry)))
         allowance (r .last) (r .turns) (r .settled)
         (now (left .exit)) (now (leftlay .exit)) (now (right .exit)) (now (rightlay .exit))

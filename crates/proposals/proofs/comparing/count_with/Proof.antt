@@ -28,7 +28,9 @@ module _ (c : tie.After-fill-links) where
   abbrev its : tie.Start
   its = startOf c
 
-  copied-order : take (its .args .n) (c .before .before .before .before .before .before .copied .last .1 .0) ≡ take (its .args .n) (its .args .xs .now)
+  copied-order :
+      take (its .args .n) (c .before .before .before .before .before .before .copied .last .1 .0) ≡
+      take (its .args .n) (its .args .xs .now)
   copied-order =
       let g = its .pre .0 in
       let side = sideOf (its .args .side) in
@@ -36,19 +38,27 @@ module _ (c : tie.After-fill-links) where
       copy-taken _ _ g side _ _ _ refl (order-within _ _ g side _ good) (c .before .before .before .before .before .before .copied .ensures)
 
   copied-one : OneToN (its .args .n) (c .before .before .before .before .before .before .copied .last .1 .0)
-  copied-one = copy-one _ _ (its .pre .0) (sideOf (its .args .side)) _ (its .pre .1 .1) _ _ refl (c .before .before .before .before .before .before .copied .ensures)
+  copied-one =
+      let copied = c .before .before .before .before .before .before .copied .ensures in
+      copy-one _ _ (its .pre .0) (sideOf (its .args .side)) _ (its .pre .1 .1) _ _ refl copied
 
-  other-taken : take (its .args .n) (c .before .before .before .side-order .last .1 .1 .1 .0) ≡ shownOrder (its .args .s .now) (sideOf (3 - its .args .side))
+  other-taken :
+      take (its .args .n) (c .before .before .before .side-order .last .1 .1 .1 .0) ≡
+      shownOrder (its .args .s .now) (sideOf (3 - its .args .side))
   other-taken = order-taken _ _ (its .pre .0) (sideOf (3 - its .args .side)) _ _ (c .before .before .before .side-order .ensures)
 
   other-one : OneToN (its .args .n) (c .before .before .before .side-order .last .1 .1 .1 .0)
   other-one = order-one _ _ (its .pre .0) (sideOf (3 - its .args .side)) _ _ (c .before .before .before .side-order .ensures)
 
   its-links : take (its .args .n) (c .fill-links .last .1 .1 .1 .0) ≡ parts (its .args .s .now) .links
-  its-links = let most = its .pre .0 .sized .most in links-taken _ _ (its .pre .0) _ _ (omega arith) _ (c .before .before .links-at .ensures) (c .fill-links .ensures)
+  its-links =
+      let most = its .pre .0 .sized .most in
+      links-taken _ _ (its .pre .0) _ _ (omega arith) _ (c .before .before .links-at .ensures) (c .fill-links .ensures)
 
   linked : OneToN (its .args .n) (c .fill-links .last .1 .1 .1 .0)
-  linked = let most = its .pre .0 .sized .most in links-one _ _ (its .pre .0) _ _ (omega arith) _ (c .before .before .links-at .ensures) (c .fill-links .ensures)
+  linked =
+      let most = its .pre .0 .sized .most in
+      links-one _ _ (its .pre .0) _ _ (omega arith) _ (c .before .before .links-at .ensures) (c .fill-links .ensures)
 
 -- ---- the needs
 

@@ -40,7 +40,9 @@ free-rows-requires : tie.Need-free-rows-requires
 free-rows-requires c κs =
     let f = c .before .before .before in
     let s = startOf (f .before .before .before) in
-    ((s .pre .0 .0, s .pre .1 .0 .0), (s .pre .1 .1 .1 .left-counts, s .pre .1 .1 .0 .0, far-apart _ _ _ _ (f .far-of-left .ensures .0) (s .pre .1 .0 .1) (other-one (f .before .before .before)) (s .pre .0 .0 .most)))
+    let seen = other-one (f .before .before .before) in
+    let apart = far-apart _ _ _ _ (f .far-of-left .ensures .0) (s .pre .1 .0 .1) seen (s .pre .0 .0 .most) in
+    ((s .pre .0 .0, s .pre .1 .0 .0), (s .pre .1 .1 .1 .left-counts, s .pre .1 .1 .0 .0, apart))
 
 same-length : tie.Need-same-length
 same-length c = search needs

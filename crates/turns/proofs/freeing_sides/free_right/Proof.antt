@@ -40,7 +40,9 @@ free-rows-requires : tie.Need-free-rows-requires
 free-rows-requires c κs =
     let f = c .before .before .before in
     let s = startOf (f .before .before .before) in
-    ((s .pre .0 .1, s .pre .1 .0 .0), (s .pre .1 .1 .1 .right-counts, s .pre .1 .1 .0 .0, near-apart _ _ _ _ (s .pre .1 .0 .1) (f .far-of-right .ensures .0) (other-one (f .before .before .before)) (s .pre .0 .1 .most)))
+    let seen = other-one (f .before .before .before) in
+    let apart = near-apart _ _ _ _ (s .pre .1 .0 .1) (f .far-of-right .ensures .0) seen (s .pre .0 .1 .most) in
+    ((s .pre .0 .1, s .pre .1 .0 .0), (s .pre .1 .1 .1 .right-counts, s .pre .1 .1 .0 .0, apart))
 
 same-length : tie.Need-same-length
 same-length c = search needs

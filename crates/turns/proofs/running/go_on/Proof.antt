@@ -16,7 +16,8 @@ use Rattle.turns.proofs.running.go_on.Statement.{statement}
 use Rattle.turns.proofs.running.go_on.Tie as tie
 
 abbrev Inv-loop : tie.InvT-loop
-Inv-loop left₀ right₀ links leftlay₀ rightlay₀ leftmany rightmany leftorder₀ rightorder₀ first count allowance last₀ turns₀ side₀ left right leftlay rightlay leftorder rightorder last turns side =
+Inv-loop left₀ right₀ links leftlay₀ rightlay₀ leftmany rightmany leftorder₀ rightorder₀ first count allowance last₀ turns₀ side₀
+    left right leftlay rightlay leftorder rightorder last turns side =
     let t = givenTree left₀ leftlay₀ in
     let u = givenTree right₀ rightlay₀ in
     let n = size left₀ in
@@ -27,7 +28,8 @@ Inv-loop left₀ right₀ links leftlay₀ rightlay₀ leftmany rightmany leftor
     (layoutsFrom leftlay rightlay) last turns side
 
 abbrev μ-loop : tie.MeasureT-loop
-μ-loop left₀ right₀ links leftlay₀ rightlay₀ leftmany rightmany leftorder₀ rightorder₀ first count allowance last₀ turns₀ side₀ left right leftlay rightlay leftorder rightorder last turns side =
+μ-loop left₀ right₀ links leftlay₀ rightlay₀ leftmany rightmany leftorder₀ rightorder₀ first count allowance last₀ turns₀ side₀
+    left right leftlay rightlay leftorder rightorder last turns side =
     allowance - turns
 
 -- ---- a turn taken

@@ -37,4 +37,5 @@ returns-2 c =
 pub pairs-spec : {M : Type 1} → statement M
 pairs-spec =
     tie.close
-    (tie.spec refusal-number-requires tell-count-requires returns size-of-requires crossings-paired-requires tell-count-requires-2 returns-2)
+    (tie.spec refusal-number-requires tell-count-requires returns size-of-requires
+    crossings-paired-requires tell-count-requires-2 returns-2)
