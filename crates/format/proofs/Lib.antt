@@ -7,3 +7,4 @@ pub mod Contents
 pub mod Acceptance
 pub mod Refused
 pub mod Meaning
+pub mod Rehold

@@ -4,7 +4,7 @@ use mathlib.Core.Path.{_≡_, refl, sym, ap, _∙_}
 use mathlib.Core.Logic.{_↔_}
 use mathlib.Core.Bool.{Bool, true, false, _&&_, _||_, false≢true}
 use mathlib.Core.List.{List, [], _∷_, _++_, List·Permᴰ, Permᴰ·symm, List·Memᴰ, List·Memᴰ·head, List·Memᴰ·tail}
-use borrow.Author.Tests.{eqb-true, eq-eqb, le-leb, lt-leb}
+use borrow.Author.Tests.{eqb-true, eq-eqb, leb-true, le-leb, lt-leb}
 use lib.Dec.{eqb, leb}
 use lib.ListN.{length, getD, take}
 use Rattle.tanglegram.specs.Lists.{Each, range}
@@ -83,6 +83,14 @@ one-to-one-perm n ps e = (
 )
 
 -- ---- a layout, byte by byte
+
+pub layout-small : (xs : List ℕ) → isLayout xs ≡ true → Each (λ x. x ≤ 1) xs
+unfolding isLayout
+layout-small xs e = each-map xs (λ x h. leb-true x 1 h) (all-each (λ x. leb x 1) xs e)
+
+pub small-layout : (xs : List ℕ) → Each (λ x. x ≤ 1) xs → isLayout xs ≡ true
+unfolding isLayout
+small-layout xs e = each-all (λ x. leb x 1) xs (each-map xs (λ x h. le-leb x 1 h) e)
 
 pub no-bytes : isLayout [] ≡ true
 unfolding isLayout all

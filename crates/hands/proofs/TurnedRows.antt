@@ -73,7 +73,7 @@ flip-small : (x : ℕ) → leb (flip x) 1 ≡ true
 flip-small zero = refl
 flip-small (suc x) = refl
 
-turned-bytes : (lay : List ℕ) (row : ℕ) → isLayout lay ≡ true → isLayout (turnRow lay row) ≡ true
+pub turned-bytes : (lay : List ℕ) (row : ℕ) → isLayout lay ≡ true → isLayout (turnRow lay row) ≡ true
 unfolding isLayout
 turned-bytes lay row e =
     let small = all-each (λ x. leb x 1) lay e in

@@ -1,12 +1,12 @@
 -- A run of an accepted record that is not held keeps demand 3.
-use Prim.Native.Nat.{ℕ, _≤_}
+use Prim.Native.Nat.{ℕ, zero, suc, pred, _≤_, _<_}
 use mathlib.Core.Path.{_≡_, refl, sym, ap, _∙_, subst}
 use mathlib.Core.Bool.{Bool, true, false}
 use mathlib.Core.List.{List}
 use native.Mathlib.Omega.{arith}
 use borrow.Author.Tests.{eq-eqb}
 use Rattle.tanglegram.specs.Lists.{bit}
-use Rattle.tanglegram.specs.Run.{Side, left, right}
+use Rattle.tanglegram.specs.Run.{Side, left, right, other, after}
 use Rattle.tanglegram.specs.Table.{Table, Layouts, put, crossings, free, Least}
 use Rattle.tanglegram.proofs.Freeing.{every-layout}
 use Rattle.tanglegram.proofs.Run.{stays-good, no-rise}
@@ -21,7 +21,7 @@ use Rattle.table.specs.Refusals.{running}
 use Rattle.standing.specs.Shown.{shownCount}
 use Rattle.table.specs.Calls.{ranTo}
 use Rattle.table.proofs.Turns.{allowed, running-0}
-use Rattle.promises.specs.Demand3.{Demand3}
+use Rattle.promises.specs.Demand3.{nextAfter, countAfter, Demand3}
 
 -- `N` holds no side
 not-held : (hold : ℕ) (side : Side) → hold ≡ 78 → holds hold side ≡ false
@@ -36,6 +36,30 @@ bit-true false e = absurd (omega arith)
 bit-false : (b : Bool) → bit b ≡ 0 → b ≡ false
 bit-false true e = absurd (omega arith)
 bit-false false e = refl
+
+bit-most : (b : Bool) → bit b ≤ 1
+bit-most true = omega arith
+bit-most false = omega arith
+
+-- a run that settles at the second turn or later does not settle where one turn is taken
+not-one : (b : Bool) (turns : ℕ) → (b ≡ true → 2 ≤ turns) → turns ≤ 1 → bit b ≡ 0
+not-one true turns two one = let p = two refl in absurd (omega arith)
+not-one false turns two one = refl
+
+-- the last turn, by its number and by the one before
+last-equal : (turns j : ℕ) (f : ℕ → ℕ) → turns ≡ suc j → f (suc j) ≡ f j → f turns ≡ f (pred turns)
+last-equal turns j f e h = rw e h
+
+last-less : (turns : ℕ) (f : ℕ → ℕ) → 2 ≤ turns → ((j : ℕ) → 1 ≤ j → j < turns → f (suc j) < f j) → f turns < f (pred turns)
+last-less zero f two h = absurd (omega arith)
+last-less (suc j) f two h = h j (omega arith) (omega arith)
+
+-- one turn more is the freeing of the side that is next
+one-more : {S : Type 0} (free : Side → S → S) (j : ℕ) (side : Side) (s : S) →
+    after free (suc j) side s ≡ free (nextAfter j side) (after free j side s)
+unfolding after nextAfter
+one-more free zero side s = refl
+one-more free (suc j) side s = one-more free j (other side) (free side s)
 
 pub demand3 : Demand3
 demand3 = record {
@@ -56,6 +80,7 @@ demand3 = record {
       let first : answer .first ≡ shownCount s = ap (λ x. x .first) (o .answers) ∙ rw q refl in
       let last : answer .last ≡ crossings T (E .last) = ap (λ x. x .last) (o .answers) ∙ rw q refl in
       let settled : answer .settled ≡ bit (E .settled) = ap (λ x. x .settled) (o .answers) ∙ rw q refl in
+      let second : (E .settled ≡ true → 2 ≤ E .turns) = λ e. let stop = ends .stops e in omega (arith, stop .1, stop .2) in
       let left-behind : s′ ≡ relaid s (E .last) = o .leaves ∙ rw q refl in
       let table-same : tableOf s′ ≡ T = ap tableOf left-behind ∙ table-relaid s (accepted-sized s a) (E .last) l r in
       let laid : layoutsOf s′ ≡ E .last = ap layoutsOf left-behind ∙ layouts-of-relaid s (accepted-sized s a) (E .last) l r in
@@ -69,6 +94,15 @@ demand3 = record {
         few-turns = rw (turns, last, first) (ends .few);
         goes-on = λ j p lt. ends .goes-on j p (rw turns at lt);
         two-turns = λ p. rw turns (ends .enough p);
+        each-frees = λ j. one-more (free T) j left (layoutsOf s);
+        settled-or-not = rw settled (bit-most (E .settled));
+        last-gained-nothing = λ e.
+            let stop = ends .stops (bit-true (E .settled) (sym settled ∙ e)) in
+            rw turns (last-equal (E .turns) (stop .0) (countAfter s) (stop .1) (stop .3));
+        not-turn-1 = λ e. rw turns (second (bit-true (E .settled) (sym settled ∙ e)));
+        last-gained = λ e two.
+            rw turns (last-less (E .turns) (countAfter s) (rw turns at two) (ends .gained (bit-false (E .settled) (sym settled ∙ e))));
+        not-by-one = λ e. settled ∙ not-one (E .settled) (E .turns) second (omega (arith, ends .allowed));
         in-time = λ p. settled ∙ ap bit (ends .in-time (rw first at p));
         used-up = λ e. turns ∙ ends .used-up (bit-false (E .settled) (sym settled ∙ e));
         least = λ e side any.

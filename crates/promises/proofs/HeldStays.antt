@@ -1,6 +1,6 @@
 -- Freeing, runs and hand lists change layout bytes only, and never a held side's.
-use Prim.Native.Nat.{ℕ}
-use mathlib.Core.Path.{_≡_, refl, sym, ap, _∙_, subst}
+use Prim.Native.Nat.{ℕ, zero, suc}
+use mathlib.Core.Path.{_≡_, refl, sym, ap, ap₂, _∙_, subst}
 use mathlib.Core.Bool.{Bool, true, false, cond, true≢false}
 use mathlib.Core.List.{List, [], _∷_}
 use native.Mathlib.Omega.{arith}
@@ -8,17 +8,19 @@ use borrow.Author.Tests.{eqb-true}
 use lib.Dec.{eqb}
 use lib.ListN.{length, take, length-set}
 use lib.Seq.{take-at, length-take-le}
-use Rattle.tanglegram.specs.Order.{turnRow}
-use Rattle.tanglegram.specs.Run.{Side, left, right, run}
-use Rattle.tanglegram.specs.Table.{Layouts, layout, put, crossings, free, Least}
+use Rattle.tanglegram.specs.Order.{order, turnRow}
+use Rattle.tanglegram.specs.Run.{Side, left, right, other, run, after}
+use Rattle.tanglegram.specs.Table.{Table, Layouts, layout, put, crossings, free, Least}
 use Rattle.tanglegram.proofs.Run.{stays-good}
-use Rattle.tanglegram.proofs.Table.{Fits, frees, run-table}
+use Rattle.tanglegram.proofs.Table.{Fair, Fits, free-fits, free-small, frees, run-table}
 use Rattle.format.specs.Fields.{holdOf, sizeOf, leftLayoutAt}
-use Rattle.format.specs.Refusals.{refusal}
+use Rattle.format.specs.Refusals.{isLayout, refusal}
 use Rattle.format.specs.Refused.{accepted}
 use Rattle.format.specs.Meaning.{tableOf, layoutsOf, relaid}
-use Rattle.format.proofs.Acceptance.{accepted-sized}
-use Rattle.format.proofs.Meaning.{accepted-fair, accepted-fits, fits-long, length-relaid, layouts-of-relaid}
+use Rattle.format.proofs.Acceptance.{accepted-sized, accepted-parts}
+use Rattle.format.proofs.Meaning.{accepted-fair, accepted-fits, fits-long, length-relaid, layouts-of-relaid, hold-relaid}
+use Rattle.format.proofs.Meaning.{size-relaid, parts-relaid, table-relaid, relaid-accepted}
+use Rattle.format.proofs.Tests.{layout-small, small-layout}
 use Rattle.standing.specs.Sides.{sideOf, holds}
 use Rattle.hands.specs.Refusals.{Hand, handing}
 use Rattle.table.specs.Refusals.{freeing, running}
@@ -27,25 +29,55 @@ use Rattle.hands.specs.Calls.{handed}
 use Rattle.table.proofs.Turns.{freeing-good, running-good}
 use Rattle.hands.proofs.HandLists.{handing-accepted}
 use Rattle.hands.proofs.Handed.{held-kept}
+use Rattle.hands.proofs.TurnedRows.{turned-bytes}
 use Rattle.promises.specs.HeldStays as HeldStays
-use Rattle.promises.specs.HeldStays.{Keeps}
+use Rattle.promises.specs.HeldStays.{SameTrees, Keeps}
+
+pub trees-same : (s : List ℕ) → SameTrees s s
+trees-same s = record { same-size = refl; same-trees = λ side. refl; same-links = refl; accepted-again = λ a. a }
 
 keeps-same : (s : List ℕ) → Keeps s s
-keeps-same s = record { same-length = refl; same-front = refl; held-stays = λ side h. refl }
+keeps-same s = record {
+  same-length = refl;
+  same-front = refl;
+  same-hold = refl;
+  same-trees = trees-same s;
+  held-stays = λ side h. refl;
+  held-order = λ side h. refl;
+}
+
+-- layouts of the bytes 0 and 1
+abbrev Bytes : Layouts → Type 0
+Bytes new = (side : Side) → isLayout (layout new side) ≡ true
+
+its-bytes : (s : List ℕ) → refusal s ≡ 0 → Bytes (layoutsOf s)
+its-bytes s a left = accepted-parts s a .left-bytes
+its-bytes s a right = accepted-parts s a .right-bytes
 
 -- new layouts that fit, and are the old ones on a held side
-keeps-relaid : (s : List ℕ) (a : refusal s ≡ 0) (new : Layouts) → Fits (accepted-fair s a) new →
+keeps-relaid : (s : List ℕ) (a : refusal s ≡ 0) (new : Layouts) → Fits (accepted-fair s a) new → Bytes new →
     ((side : Side) → holds (holdOf s) side ≡ true → layout new side ≡ layout (layoutsOf s) side) → Keeps s (relaid s new)
 unfolding relaid
-keeps-relaid s a new f h =
+keeps-relaid s a new f b h =
     let z = accepted-sized s a in
     let l = fits-long s a new f left in
     let r = fits-long s a new f right in
+    let table = table-relaid s z new l r in
+    let laid = layouts-of-relaid s z new l r in
     record {
       same-length = length-relaid s z new l r;
+      same-hold = hold-relaid s z new l r;
+      same-trees = record {
+        same-size = size-relaid s z new l r;
+        same-trees = λ side. ap (λ T. T .tree side) table;
+        same-links = ap (λ P. P .links) (parts-relaid s z new l r);
+        accepted-again = λ _. relaid-accepted s z new l r a (b left) (b right);
+      };
+      held-order = λ side e.
+          ap₂ order (ap (λ L. layout L side) laid ∙ h side e) (ap (λ T. T .tree side) table);
       same-front =
           take-at (take (leftLayoutAt (sizeOf s)) s) _ (leftLayoutAt (sizeOf s)) (length-take-le (leftLayoutAt (sizeOf s)) s (omega arith));
-      held-stays = λ side e. ap (λ L. layout L side) (layouts-of-relaid s z new l r) ∙ h side e;
+      held-stays = λ side e. ap (λ L. layout L side) laid ∙ h side e;
     }
 
 -- a call that is accepted and keeps what it should, or is refused and changes nothing
@@ -56,13 +88,25 @@ either s new s′ k e f = go (eqb k 0) refl e
     go true p q = subst (Keeps s) (sym q) (f (eqb-true k 0 p))
     go false p q = subst (Keeps s) (sym q) (keeps-same s)
 
+-- freeing keeps bytes of 0 and 1, turn after turn
+freed-bytes : (T : Table) (F : Fair T) (side : Side) (L : Layouts) → Fits F L → Bytes L → Bytes (free T side L)
+freed-bytes T F side L fits b x =
+    small-layout (layout (free T side L) x) (free-small T F side L fits (λ y. layout-small (layout L y) (b y)) x)
+
+after-bytes : (T : Table) (F : Fair T) (j : ℕ) (side : Side) (L : Layouts) → Fits F L → Bytes L → Bytes (after (free T) j side L)
+unfolding after
+after-bytes T F zero side L fits b = b
+after-bytes T F (suc j) side L fits b =
+    after-bytes T F j (other side) (free T side L) (free-fits T F side L fits) (freed-bytes T F side L fits b)
+
 free-keeps : (s : List ℕ) (side : ℕ) → freeing s side ≡ 0 → Keeps s (relaid s (freedLayouts s side))
 free-keeps s side e =
     let g = freeing-good s side e in
     let a = g .1 in
-    let F = frees (tableOf s) (accepted-fair s a) in
-    keeps-relaid s a (freedLayouts s side) (F .stays (sideOf side) (layoutsOf s) (accepted-fits s a))
-    (λ x h. untouched (sideOf side) x (g .2) h)
+    let fits = accepted-fits s a in
+    let F = accepted-fair s a in
+    keeps-relaid s a (freedLayouts s side) (free-fits (tableOf s) F (sideOf side) (layoutsOf s) fits)
+    (freed-bytes (tableOf s) F (sideOf side) (layoutsOf s) fits (its-bytes s a)) (λ x h. untouched (sideOf side) x (g .2) h)
   where
     untouched : (freed x : Side) → holds (holdOf s) freed ≡ false → holds (holdOf s) x ≡ true →
         layout (free (tableOf s) freed (layoutsOf s)) x ≡ layout (layoutsOf s) x
@@ -80,8 +124,9 @@ run-keeps s allowance e =
     let ends = run-table (tableOf s) F allowance (layoutsOf s) fits in
     let after-fits = stays-good (Fits F) (crossings (tableOf s)) (Least (tableOf s)) (free (tableOf s)) (frees (tableOf s) F)
     (ranTo s allowance .turns) left (layoutsOf s) fits in
+    let bytes = after-bytes (tableOf s) F (ranTo s allowance .turns) left (layoutsOf s) fits (its-bytes s a) in
     keeps-relaid s a (ranTo s allowance .last) (subst (Fits F) (sym (ends .is-after)) after-fits)
-    (λ x h. absurd (none x (g .2) (g .3) h))
+    (subst Bytes (sym (ends .is-after)) bytes) (λ x h. absurd (none x (g .2) (g .3) h))
   where
     none : (x : Side) → holds (holdOf s) left ≡ false → holds (holdOf s) right ≡ false → holds (holdOf s) x ≡ true → ⊥
     none left p q h = true≢false (sym h ∙ p)
@@ -99,11 +144,22 @@ handed-long (h ∷ hs) at side = handed-long hs _ side ∙ by (sideOf (h .side))
     by right left = refl
     by right right = simp length-set
 
+handed-bytes : (hands : List Hand) (at : Layouts) → Bytes at → Bytes (handed at hands)
+unfolding handed
+handed-bytes [] at b = b
+handed-bytes (h ∷ hs) at b = handed-bytes hs _ (by (sideOf (h .side)))
+  where
+    by : (x : Side) → Bytes (put x (turnRow (layout at x) (h .row)) at)
+    by left left = turned-bytes (at .left-bytes) (h .row) (b left)
+    by left right = b right
+    by right left = b left
+    by right right = turned-bytes (at .right-bytes) (h .row) (b right)
+
 hands-keep : (s : List ℕ) (hands : List Hand) → handing s hands ≡ 0 → Keeps s (relaid s (handed (layoutsOf s) hands))
 hands-keep s hands e =
     let a = handing-accepted s hands e .1 in
     keeps-relaid s a (handed (layoutsOf s) hands) (λ side. handed-long hands (layoutsOf s) side ∙ accepted-fits s a side)
-    (λ side h. held-kept s hands side e h)
+    (handed-bytes hands (layoutsOf s) (its-bytes s a)) (λ side h. held-kept s hands side e h)
 
 pub held-stays : HeldStays.HeldStays
 held-stays = record {

@@ -1,17 +1,25 @@
 -- Setting the hold writes byte 5 or nothing, and tests the letter before the record.
-use mathlib.Core.Path.{_≡_, refl, sym, ap, _∙_}
+use mathlib.Core.Path.{_≡_, refl, sym, ap, _∙_, subst}
 use mathlib.Core.Bool.{Bool, true, false, cond}
 use mathlib.Core.List.{List}
 use mathlib.Core.Logic.{_≢_}
 use Prim.Native.Nat.{ℕ}
 use native.Mathlib.Omega.{arith}
-use borrow.Author.Tests.{eq-eqb}
+use borrow.Author.Tests.{eq-eqb, eqb-true}
+use lib.Dec.{eqb}
 use lib.ListN.{length, getD, set, length-set}
 use lib.Seq.{getD-set-same, getD-set-other}
-use Rattle.format.specs.Refusals.{holding}
+use Rattle.tanglegram.specs.Run.{Side}
+use Rattle.tanglegram.specs.Table.{orderOf}
+use Rattle.format.specs.Meaning.{tableIn, layoutsIn}
+use Rattle.format.specs.Refusals.{isHold, refusal, holding}
 use Rattle.format.specs.Refused.{accepted}
 use Rattle.format.proofs.Acceptance.{accepted-heading, holding-accepted}
+use Rattle.format.proofs.Rehold.{parts-rehold, size-rehold, rehold-accepted}
+use Rattle.standing.specs.Shown.{shownOrder}
+use Rattle.promises.specs.HeldStays.{SameTrees}
 use Rattle.promises.specs.SetHoldOnly.{SetHoldPromise}
+use Rattle.promises.proofs.HeldStays.{trees-same}
 
 -- the letter written, or nothing
 module _ (s : List ℕ) (letter : ℕ) where
@@ -23,11 +31,38 @@ module _ (s : List ℕ) (letter : ℕ) where
   long true = length-set s 5 letter
   long false = refl
 
+  -- another hold, and nothing else
+  reheld-trees : refusal s ≡ 0 → isHold letter ≡ true → SameTrees s (set s 5 letter)
+  reheld-trees a h =
+      let g = accepted-heading s a in
+      let same = parts-rehold s letter (omega (arith, g .long)) in
+      record {
+        same-size = size-rehold s letter;
+        same-trees = λ side. ap (λ P. tableIn P .tree side) same;
+        same-links = ap (λ P. P .links) same;
+        accepted-again = λ _. rehold-accepted s letter a h;
+      }
+
+  trees : (after : List ℕ) (k : ℕ) → after ≡ cond (accepted k) (set s 5 letter) s →
+      (k ≡ 0 → (isHold letter ≡ true) × (refusal s ≡ 0)) → SameTrees s after × ((side : Side) → shownOrder after side ≡ shownOrder s side)
+  trees after k e f = go (eqb k 0) refl e
+    where
+      go : (b : Bool) → eqb k 0 ≡ b → after ≡ cond b (set s 5 letter) s →
+          SameTrees s after × ((side : Side) → shownOrder after side ≡ shownOrder s side)
+      go true p q =
+          let good = f (eqb-true k 0 p) in
+          let same = parts-rehold s letter (omega (arith, accepted-heading s (good .1) .long)) in (
+            subst (SameTrees s) (sym q) (reheld-trees (good .1) (good .0)),
+            λ side. ap (λ r. shownOrder r side) q ∙ ap (λ P. orderOf (tableIn P) (layoutsIn P) side) same,
+          )
+      go false p q = (subst (SameTrees s) (sym q) (trees-same s), λ side. ap (λ r. shownOrder r side) q)
+
 pub set-hold-only : SetHoldPromise
 unfolding holding
 set-hold-only s letter answer after p =
     let b = accepted (holding s letter) in
     let number = ap (λ a. a .number) (p .answers) in
+    let kept = trees s letter after (holding s letter) (p .leaves) (holding-accepted s letter) in
     record {
       puts-the-letter =
           λ z.
@@ -36,6 +71,8 @@ set-hold-only s letter answer after p =
           ap (λ r. getD r 5 0) (p .leaves) ∙ rw (eq-eqb (holding s letter) 0 e) (getD-set-same s 5 letter 0 (omega (arith, g .long)));
       keeps-the-others = λ i h. ap (λ r. getD r i 0) (p .leaves) ∙ others s letter b i h;
       keeps-the-length = ap length (p .leaves) ∙ long s letter b;
+      keeps-the-trees = kept .0;
+      keeps-the-orders = kept .1;
       bad-letter-first = λ h. number ∙ rw h refl;
       then-the-record = λ h. number ∙ rw h refl;
     }

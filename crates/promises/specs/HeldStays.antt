@@ -1,5 +1,5 @@
 -- Demand 1: "A refused call changes no lent byte. A held side is never moved." For the calls that may change a record's layouts,
--- in every outcome; they change layout bytes only.
+-- in every outcome; they change layout bytes only, and an accepted record is accepted again.
 use Prim.Native.Nat.{ℕ}
 use mathlib.Core.Path.{_≡_}
 use mathlib.Core.Bool.{true}
@@ -7,21 +7,33 @@ use mathlib.Core.List.{List}
 use lib.ListN.{length, take}
 use Rattle.tanglegram.specs.Run.{Side}
 use Rattle.tanglegram.specs.Table.{layout}
-use Rattle.format.specs.Fields.{holdOf, sizeOf, leftLayoutAt}
-use Rattle.format.specs.Meaning.{layoutsOf}
+use Rattle.format.specs.Fields.{holdOf, sizeOf, leftLayoutAt, parts}
+use Rattle.format.specs.Refusals.{refusal}
+use Rattle.format.specs.Meaning.{tableOf, layoutsOf}
 use Rattle.format.specs.declared.refusal.Refusal.{Refusal}
 use Rattle.table.specs.declared.answers.Freed.{Freed}
 use Rattle.table.specs.declared.answers.Ran.{Ran}
 use Rattle.standing.specs.Sides.{holds}
+use Rattle.standing.specs.Shown.{shownOrder}
 use Rattle.hands.specs.Refusals.{Hand}
 use Rattle.table.specs.Calls.{Frees, Runs}
 use Rattle.hands.specs.Calls.{Hands}
 
--- s′ has the bytes of s but for layout bytes, and of a held side those too.
+-- s′ shows the trees and links of s, and is accepted if s is.
+pub record SameTrees (s s′ : List ℕ) : Type 0 where
+  pub same-size : sizeOf s′ ≡ sizeOf s
+  pub same-trees : (side : Side) → tableOf s′ .tree side ≡ tableOf s .tree side
+  pub same-links : parts s′ .links ≡ parts s .links
+  pub accepted-again : refusal s ≡ 0 → refusal s′ ≡ 0
+
+-- s′ has the bytes of s but for layout bytes, and of a held side those too; so a held side's leaf order stays.
 pub record Keeps (s s′ : List ℕ) : Type 0 where
   pub same-length : length s′ ≡ length s
   pub same-front : take (leftLayoutAt (sizeOf s)) s′ ≡ take (leftLayoutAt (sizeOf s)) s
+  pub same-hold : holdOf s′ ≡ holdOf s
+  pub same-trees : SameTrees s s′
   pub held-stays : (side : Side) → holds (holdOf s) side ≡ true → layout (layoutsOf s′) side ≡ layout (layoutsOf s) side
+  pub held-order : (side : Side) → holds (holdOf s) side ≡ true → shownOrder s′ side ≡ shownOrder s side
 
 pub record HeldStays : Type 0 where
   pub free : (s : List ℕ) (side : ℕ) (answer : Freed) (s′ : List ℕ) → Frees s side answer s′ → Keeps s s′

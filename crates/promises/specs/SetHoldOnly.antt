@@ -8,12 +8,18 @@ use mathlib.Core.List.{List}
 use lib.ListN.{length, getD}
 use Rattle.format.specs.declared.refusal.Refusal.{Refusal}
 use Rattle.format.specs.Refusals.{isHold, refusal}
+use Rattle.tanglegram.specs.Run.{Side}
+use Rattle.standing.specs.Shown.{shownOrder}
 use Rattle.record.specs.Calls.{SetsHold}
+use Rattle.promises.specs.HeldStays.{SameTrees}
 
 pub record SetHoldOnly (s : List ℕ) (letter : ℕ) (answer : Refusal) (after : List ℕ) : Type 0 where
   pub puts-the-letter : answer .number ≡ 0 → getD after 5 0 ≡ letter
   pub keeps-the-others : (i : ℕ) → i ≢ 5 → getD after i 0 ≡ getD s i 0
   pub keeps-the-length : length after ≡ length s
+  -- So neither side moves, and an accepted record is accepted again.
+  pub keeps-the-trees : SameTrees s after
+  pub keeps-the-orders : (side : Side) → shownOrder after side ≡ shownOrder s side
   pub bad-letter-first : isHold letter ≡ false → answer .number ≡ 4
   pub then-the-record : isHold letter ≡ true → answer .number ≡ refusal s
 
