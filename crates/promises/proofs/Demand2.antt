@@ -1,7 +1,7 @@
 -- Orders are the layouts' and compatible; counts are the definition's; the freed side has the fewest crossings.
 use Prim.Native.Nat.{ℕ, _≤_, _<_}
 use mathlib.Core.Path.{_≡_, refl, sym, ap, _∙_, subst}
-use mathlib.Core.Logic.{_↔_}
+use mathlib.Core.Logic.{_↔_, _⊎_}
 use mathlib.Core.List.{List}
 use borrow.Author.Tests.{eq-eqb}
 use lib.ListN.{length, take, drop}
@@ -9,12 +9,12 @@ use lib.Seq.{take-at}
 use Rattle.tanglegram.specs.Tree.{Tree, EachRow}
 use Rattle.tanglegram.specs.Order.{Compatible, byte, flip}
 use Rattle.tanglegram.specs.Crossings.{between, own, ownAt}
-use Rattle.tanglegram.specs.Run.{Side, other}
-use Rattle.tanglegram.specs.Table.{Layouts, layout, put, seen, crossings}
+use Rattle.tanglegram.specs.Run.{Side, left, right, other}
+use Rattle.tanglegram.specs.Table.{Layouts, layout, put, seen, crossings, free}
 use Rattle.tanglegram.proofs.Lists.{all-length}
 use Rattle.tanglegram.proofs.Tree.{eachRow-map}
 use Rattle.tanglegram.proofs.Order.{order-compatible}
-use Rattle.tanglegram.proofs.Freeing.{every-layout}
+use Rattle.tanglegram.proofs.Freeing.{every-layout, freed-either}
 use Rattle.tanglegram.proofs.Table.{free-exactly, free-least, free-other}
 use Rattle.format.specs.Fields.{sizeOf, partsOf}
 use Rattle.format.specs.Refusals.{refusal}
@@ -56,6 +56,23 @@ TurnedIff s side new i u l =
     let old = layout (layoutsOf s) side in
     (byte (layout new side) i ≡ flip (byte old i)) ↔ (own (between see u l) (between see l u) (flip (byte old i)) < ownAt see old i u l)
 
+-- row i's byte in `new` is the other one or the same
+abbrev EitherByte : List ℕ → Side → Layouts → ℕ → Tree → Tree → Type 0
+EitherByte s side new i u l =
+    let old = layout (layoutsOf s) side in
+    (byte (layout new side) i ≡ flip (byte old i)) ⊎ (byte (layout new side) i ≡ byte old i)
+
+free-either : (s : List ℕ) → refusal s ≡ 0 → (side : Side) →
+    EachRow (EitherByte s side (free (tableOf s) side (layoutsOf s))) (tableOf s .tree side)
+free-either s a left =
+    let F = accepted-fair s a in
+    freed-either (seen (tableOf s) (layoutsOf s) left) (tableOf s .tree left) (F .row-count left) (F .numbered left)
+    (layoutsOf s .left-bytes) (accepted-fits s a left)
+free-either s a right =
+    let F = accepted-fair s a in
+    freed-either (seen (tableOf s) (layoutsOf s) right) (tableOf s .tree right) (F .row-count right) (F .numbered right)
+    (layoutsOf s .right-bytes) (accepted-fits s a right)
+
 pub demand2 : Demand2.Demand2
 unfolding partsOf
 demand2 = record {
@@ -92,4 +109,7 @@ demand2 = record {
             (free-exactly (tableOf s) (accepted-fair s a) (sideOf side) (layoutsOf s) (accepted-fits s a))),
         ap (λ L. layout L (other (sideOf side))) l ∙ free-other (tableOf s) (accepted-fair s a) (sideOf side) (layoutsOf s),
       );
+  turned-or-kept = λ s side answer s′ o z.
+      subst (λ L. EachRow (EitherByte s (sideOf side) L) (tableOf s .tree (sideOf side))) (sym (laid s side answer s′ o z))
+      (free-either s (ok s side answer s′ o z) (sideOf side));
 }

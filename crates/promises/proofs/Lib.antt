@@ -8,3 +8,4 @@ pub mod Bench
 pub mod RecordRoundTrip
 pub mod Demand2
 pub mod Demand3
+pub mod Tried

@@ -3,7 +3,7 @@
 -- For every input that the call does not refuse.
 use Prim.Native.Nat.{ℕ, _≤_, _<_}
 use mathlib.Core.Path.{_≡_}
-use mathlib.Core.Logic.{_↔_}
+use mathlib.Core.Logic.{_↔_, _⊎_}
 use mathlib.Core.List.{List}
 use lib.ListN.{take}
 use Rattle.tanglegram.specs.Tree.{EachRow}
@@ -42,3 +42,7 @@ pub record Demand2 : Type 0 where
       ownAt (seen (tableOf s) (layoutsOf s) (sideOf side)) (layout (layoutsOf s) (sideOf side)) i u l))
       (tableOf s .tree (sideOf side)) ×
       (layout (layoutsOf s′) (other (sideOf side)) ≡ layout (layoutsOf s) (other (sideOf side)))
+  -- And a row that is not turned keeps its byte.
+  pub turned-or-kept : (s : List ℕ) (side : ℕ) (answer : Freed) (s′ : List ℕ) → Frees s side answer s′ → answer .refusal .number ≡ 0 →
+      EachRow (λ i u l. (byte (layout (layoutsOf s′) (sideOf side)) i ≡ flip (byte (layout (layoutsOf s) (sideOf side)) i)) ⊎
+      (byte (layout (layoutsOf s′) (sideOf side)) i ≡ byte (layout (layoutsOf s) (sideOf side)) i)) (tableOf s .tree (sideOf side))

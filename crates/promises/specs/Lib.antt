@@ -8,3 +8,4 @@ pub mod RecordRefused
 pub mod RecordRoundTrip
 pub mod SetHoldOnly
 pub mod Bench
+pub mod Tried
