@@ -31,6 +31,7 @@ use Rattle.views.proofs.Outcomes.{ordering-good}
 use Rattle.table.proofs.Freed.{freed-layouts}
 use Rattle.table.proofs.Turns.{freeing-good, freed-count}
 use Rattle.promises.specs.Demand2 as Demand2
+use Rattle.promises.proofs.RecordRoundTrip.{record-round-trip}
 
 -- what an accepted freeing leaves
 module _ (s : List ℕ) (side : ℕ) (answer : Freed) (s′ : List ℕ) (o : Frees s side answer s′) (z : answer .refusal .number ≡ 0) where
@@ -112,4 +113,5 @@ demand2 = record {
   turned-or-kept = λ s side answer s′ o z.
       subst (λ L. EachRow (EitherByte s (sideOf side) L) (tableOf s .tree (sideOf side))) (sym (laid s side answer s′ o z))
       (free-either s (ok s side answer s′ o z) (sideOf side));
+  round-trip = record-round-trip;
 }

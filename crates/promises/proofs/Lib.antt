@@ -4,8 +4,10 @@ pub mod TableOutcomes
 pub mod TableRefused
 pub mod RecordRefused
 pub mod SetHoldOnly
-pub mod Bench
+pub mod Examples
 pub mod RecordRoundTrip
 pub mod Demand2
 pub mod Demand3
 pub mod Tried
+pub mod Demand1
+pub mod Promises

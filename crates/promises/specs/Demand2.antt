@@ -1,6 +1,6 @@
 -- Demand 2: "Orders and crossings are those of the published definition. With one side standing, the freed side gets the fewest
--- crossings that any choice of its turnings could give, and a branching is turned only if that makes its own crossings fewer."
--- For every input that the call does not refuse.
+-- crossings that any choice of its turnings could give, and a branching is turned only if that makes its own crossings fewer. Parts
+-- packed are read out the same; a record read and packed gives the same bytes." For every input that the call does not refuse.
 use Prim.Native.Nat.{ℕ, _≤_, _<_}
 use mathlib.Core.Path.{_≡_}
 use mathlib.Core.Logic.{_↔_, _⊎_}
@@ -20,6 +20,7 @@ use Rattle.standing.specs.Sides.{sideOf}
 use Rattle.standing.specs.Shown.{shownOrder, shownCount}
 use Rattle.views.specs.Calls.{Orders, Counts}
 use Rattle.table.specs.Calls.{Frees}
+use Rattle.promises.specs.RecordRoundTrip.{RecordRoundTrip}
 
 pub record Demand2 : Type 0 where
   -- An order is the one that the side's layout gives, and compatible with its tree.
@@ -46,3 +47,5 @@ pub record Demand2 : Type 0 where
   pub turned-or-kept : (s : List ℕ) (side : ℕ) (answer : Freed) (s′ : List ℕ) → Frees s side answer s′ → answer .refusal .number ≡ 0 →
       EachRow (λ i u l. (byte (layout (layoutsOf s′) (sideOf side)) i ≡ flip (byte (layout (layoutsOf s) (sideOf side)) i)) ⊎
       (byte (layout (layoutsOf s′) (sideOf side)) i ≡ byte (layout (layoutsOf s) (sideOf side)) i)) (tableOf s .tree (sideOf side))
+  -- Parts packed are read out the same; a record read and packed gives the same bytes.
+  pub round-trip : RecordRoundTrip

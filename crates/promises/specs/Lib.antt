@@ -7,5 +7,7 @@ pub mod TableRefused
 pub mod RecordRefused
 pub mod RecordRoundTrip
 pub mod SetHoldOnly
-pub mod Bench
+pub mod Examples
 pub mod Tried
+pub mod Demand1
+pub mod Promises

@@ -2,9 +2,9 @@
 use Prim.Native.Nat.{ℕ}
 use mathlib.Core.Path.{_≡_}
 use mathlib.Core.List.{List, [], _∷_}
-use Rattle.tanglegram.proofs.Bench.{case}
+use Rattle.tanglegram.specs.Examples.{case}
 use Rattle.table.specs.declared.answers.Ran.{Ran}
-use Rattle.promises.specs.Bench.{recordOf}
+use Rattle.promises.specs.Examples.{recordOf}
 use Rattle.promises.specs.Demand3.{RunKeeps}
 
 -- Example 6: turn 1 gains nothing, turn 2 does.

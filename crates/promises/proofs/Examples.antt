@@ -13,10 +13,10 @@ use Rattle.format.specs.Refusals.{all, isMark, isHold, noSize, breaksRule, oneT
 use Rattle.standing.specs.Sides.{isSide, holds}
 use Rattle.table.specs.Refusals.{noAllowance, freeing, running}
 use Rattle.views.specs.Calls.{entangled}
-use Rattle.promises.specs.Bench.{Bench}
+use Rattle.promises.specs.Examples.{Examples}
 
-pub bench : Bench
+pub examples : Examples
 unfolding order write leaves deep object count place range over across pairs choose freed go run sum displacement
     used among first badRow numbers split partsOf packed all isMark isHold noSize breaksRule oneToOne isLayout contents heading refusal
     isSide holds noAllowance freeing running entangled
-bench = (refl, refl)
+examples = (refl, refl)
