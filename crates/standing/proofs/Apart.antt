@@ -17,7 +17,7 @@ use Rattle.format.specs.Fields.{numbers, linksAt, leftLayoutAt, rightLayoutAt, 
 use Rattle.format.specs.Meaning.{tableOf, layoutsOf, relaid}
 use Rattle.format.proofs.Stores.{length-numbers}
 use Rattle.format.proofs.Tables.{take-sets}
-use Rattle.turns.specs.Memory.{layoutsFrom}
+use Rattle.linked_trees.specs.Memory.{layoutsFrom}
 use Rattle.standing.specs.Sides.{Given}
 use Rattle.standing.specs.Apart.{OrdersTaken, TakenApart}
 use Rattle.standing.proofs.AsItStands.{side-perm, side-links, linked-once}

@@ -7,7 +7,7 @@ use Rattle.tanglegram.specs.Run.{left, right}
 use Rattle.format.specs.Fields.{parts}
 use Rattle.format.specs.Meaning.{tableOf, layoutsOf}
 use Rattle.linked_orders.specs.Orders.{Between}
-use Rattle.turns.specs.Memory.{InMemory, layoutsFrom}
+use Rattle.linked_trees.specs.Memory.{InMemory, layoutsFrom}
 use Rattle.standing.specs.Shown.{shownOrder}
 
 -- Into both orders and the links.

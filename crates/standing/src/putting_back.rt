@@ -4,7 +4,7 @@ ghost use Prim.Native.Nat.{_+_};
 ghost use lib.ListN.{length};
 ghost use Rattle.format.specs.Meaning.{relaid};
 ghost use Rattle.standing.specs.Sides.{Given};
-ghost use Rattle.turns.specs.Memory.{layoutsFrom};
+ghost use Rattle.linked_trees.specs.Memory.{layoutsFrom};
 use crate::places::layout_at;
 use format::copying::bytes_in;
 

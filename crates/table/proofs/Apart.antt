@@ -14,8 +14,10 @@ use Rattle.trees.specs.Exchange.{givenTree}
 use Rattle.trees.specs.Rows.{size}
 use Rattle.standing.specs.Sides.{Given}
 use Rattle.standing.specs.Apart.{TakenApart}
-use Rattle.turns.specs.Memory.{here, layoutsFrom, InMemory, SideFreed, RunTaken}
-use Rattle.turns.proofs.SideFreed.{freed-then, run-then}
+use Rattle.linked_trees.specs.Memory.{here, layoutsFrom, InMemory, SideFreed}
+use Rattle.linked_trees.proofs.SideFreed.{freed-then}
+use Rattle.turns.specs.Taken.{RunTaken}
+use Rattle.turns.proofs.Taken.{run-then}
 use Rattle.table.specs.Calls.{RecordFreed, RecordRan, ranTo}
 
 module _ {s : List ℕ} {n : ℕ} {links L l R r : List ℕ} (g : Given s n) (t : TakenApart s n links L l R r) where

@@ -21,7 +21,7 @@ fn free_apart(s: &mut [u8], n: u16, side: u16, leftlay: &mut [u8], rightlay: &mu
     let mut right = [0u16; 1023];
     let mut links = [0u16; 512];
     take_apart(s, n, &mut left, &mut right, &mut links, leftlay, rightlay);
-    let turn = turns::free_side(&mut left, &mut right, &links, leftlay, rightlay, side);
+    let turn = linked_trees::free_side(&mut left, &mut right, &links, leftlay, rightlay, side);
     put_back(s, n, leftlay, rightlay);
     turn
 }

@@ -1,8 +1,6 @@
-// Freeing a side of two linked trees and taking turns, on numbers in arrays: no bytes of a record, no refusals. Each
-// tree is a table with its layout applied (the crate `trees`), and its layout a byte for each row.
-mod freeing_sides;
+// Taking turns: the sides of two linked trees in memory (the crate `linked_trees`) are freed in turn. No bytes of a record,
+// no refusals.
 mod running;
 
-pub use freeing_sides::free_side;
 pub use running::Taken;
 pub use running::take_turns;

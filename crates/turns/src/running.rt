@@ -6,8 +6,9 @@ ghost use Rattle.tanglegram.specs.Sides.{sideOf};
 ghost use Rattle.tanglegram.specs.Table.{crossings};
 ghost use Rattle.trees.specs.Exchange.{givenTree};
 ghost use Rattle.trees.specs.Rows.{size};
-ghost use Rattle.turns.specs.Memory.{Counted, GoneOn, InMemory, layoutsFrom, orderIn, RunTaken, tableFrom};
-use crate::freeing_sides::take_turn;
+ghost use Rattle.linked_trees.specs.Memory.{Counted, InMemory, layoutsFrom, orderIn, tableFrom};
+ghost use Rattle.turns.specs.Taken.{GoneOn, RunTaken};
+use linked_trees::take_turn;
 use trees::count_leaves;
 use trees::leaf_order;
 

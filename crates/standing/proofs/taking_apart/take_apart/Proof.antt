@@ -1,7 +1,7 @@
 -- `take_apart`: the arrays hold the record's trees, layouts and links.
 use mathlib.Core.Path.{ap₂}
 use native.Mathlib.Omega.{arith}
-use Rattle.turns.specs.Memory.{layoutsFrom}
+use Rattle.linked_trees.specs.Memory.{layoutsFrom}
 use Rattle.standing.proofs.Apart.{links-taken, links-one}
 use borrow.Author.Needs.{needs}
 use Rattle.standing.proofs.taking_apart.take_apart.Statement.{statement}

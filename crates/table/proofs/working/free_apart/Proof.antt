@@ -1,6 +1,6 @@
 -- `free_apart`: the arrays hold the record's table, the side is freed there, and the layouts go back.
 use mathlib.Core.Path.{refl}
-use Rattle.turns.proofs.SideFreed.{memory-now, freed-then}
+use Rattle.linked_trees.proofs.SideFreed.{memory-now, freed-then}
 use Rattle.table.proofs.Apart.{record-freed}
 use borrow.Author.Needs.{needs}
 use Rattle.table.proofs.working.free_apart.Statement.{statement}

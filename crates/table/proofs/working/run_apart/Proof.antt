@@ -1,6 +1,7 @@
 -- `run_apart`: the arrays hold the record's table, the turns are taken there, and the layouts go back.
 use mathlib.Core.Path.{refl}
-use Rattle.turns.proofs.SideFreed.{memory-now, run-then}
+use Rattle.linked_trees.proofs.SideFreed.{memory-now}
+use Rattle.turns.proofs.Taken.{run-then}
 use Rattle.table.proofs.Apart.{record-ran}
 use borrow.Author.Needs.{needs}
 use Rattle.table.proofs.working.run_apart.Statement.{statement}

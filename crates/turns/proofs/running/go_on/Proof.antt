@@ -9,8 +9,8 @@ use Rattle.tanglegram.proofs.Sides.{side-most, other-side}
 use Rattle.tanglegram.proofs.Alternating.{Turning, turning-start, turning-gain, turning-stop, turning-end}
 use Rattle.trees.specs.Exchange.{givenTree}
 use Rattle.trees.specs.Rows.{size}
-use Rattle.turns.specs.Memory.{Counted, here, InMemory, SideFreed, layoutsFrom, orderIn}
-use Rattle.turns.proofs.SideFreed.{memory-now, freed-then}
+use Rattle.linked_trees.specs.Memory.{Counted, here, InMemory, SideFreed, layoutsFrom, orderIn}
+use Rattle.linked_trees.proofs.SideFreed.{memory-now, freed-then}
 use borrow.Author.Needs.{needs}
 use Rattle.turns.proofs.running.go_on.Statement.{statement}
 use Rattle.turns.proofs.running.go_on.Tie as tie

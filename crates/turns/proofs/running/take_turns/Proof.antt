@@ -2,8 +2,9 @@
 use mathlib.Core.Path.{refl, _∙_}
 use Rattle.tanglegram.proofs.Sides.{is-left}
 use Rattle.tanglegram.proofs.Alternating.{first-turn}
-use Rattle.turns.proofs.Orders.{walked}
-use Rattle.turns.proofs.SideFreed.{memory-now, count-freed, gone-then}
+use Rattle.linked_trees.proofs.Orders.{walked}
+use Rattle.linked_trees.proofs.SideFreed.{memory-now, count-freed}
+use Rattle.turns.proofs.Taken.{gone-then}
 use borrow.Author.Needs.{needs}
 use Rattle.turns.proofs.running.take_turns.Statement.{statement}
 use Rattle.turns.proofs.running.take_turns.Tie as tie

@@ -21,7 +21,7 @@ use Rattle.trees.specs.Exchange.{exchanged, givenTree, LaidOut}
 use Rattle.trees.proofs.Laid.{exchanged-good, exchanged-size, laid-out-order}
 use Rattle.leaf_arrays.specs.Arrays.{at, begin, Holds}
 use Rattle.freeing.specs.Row.{RowsFreed}
-use Rattle.turns.specs.Memory.{layoutsFrom, tableFrom, InMemory, SideFreed, GoneOn, RunTaken, here}
+use Rattle.linked_trees.specs.Memory.{layoutsFrom, tableFrom, InMemory, SideFreed, here}
 
 -- ---- a side in memory is a tree over its leaves
 
@@ -152,16 +152,6 @@ module _ {t u : Tree} {n : ℕ} {links L l R r : List ℕ} (m : InMemory t u n l
 
   pub count-now : (s : Layouts) → crossings (tableFrom (size L) links L l R r) s ≡ crossings (here t u n links) s
   count-now s = rw (m .left-side .tree, m .right-side .tree, m .left-side .sized) refl
-
-  pub gone-then : {s : Layouts} {allowance last turns settled : ℕ} {L′ l′ R′ r′ : List ℕ} →
-      GoneOn (givenTree L l) (givenTree R r) (size L) links s allowance last turns settled L′ l′ R′ r′ →
-      GoneOn t u n links s allowance last turns settled L′ l′ R′ r′
-  gone-then g = rw (m .left-side .tree, m .right-side .tree, m .left-side .sized) at g
-
-  pub run-then : {s : Layouts} {allowance first last turns settled : ℕ} {L′ l′ R′ r′ : List ℕ} →
-      RunTaken (givenTree L l) (givenTree R r) (size L) links s allowance first last turns settled L′ l′ R′ r′ →
-      RunTaken t u n links s allowance first last turns settled L′ l′ R′ r′
-  run-then f = rw (m .left-side .tree, m .right-side .tree, m .left-side .sized) at f
 
 -- the count after freeing a side is that of the arrays as they are then
 pub count-freed : {t u : Tree} {n : ℕ} {links L l R r : List ℕ} {side : Side} {s : Layouts} {before after : ℕ} →

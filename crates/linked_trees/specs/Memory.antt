@@ -1,11 +1,11 @@
--- Two linked trees in memory: the arrays that hold them as they are laid out, and what freeing a side and a run make of them. Stated over
--- the table that the trees and the links make (`tanglegram`).
+-- Two linked trees in memory: the arrays that hold them as they are laid out, and what freeing a side makes of them. Stated over the
+-- table that the trees and the links make (`tanglegram`).
 use Prim.Native.Nat.{ℕ}
 use mathlib.Core.Path.{_≡_}
 use mathlib.Core.List.{List}
 use lib.ListN.{take}
 use Rattle.tanglegram.specs.Tree.{Tree}
-use Rattle.tanglegram.specs.Run.{Side, left, right, run, onward, ComesTo}
+use Rattle.tanglegram.specs.Run.{Side, left, right}
 use Rattle.tanglegram.specs.Table.{Table, Layouts, pick, linked, crossings, free}
 use Rattle.trees.specs.Exchange.{givenTree, LaidOut}
 use Rattle.trees.specs.Rows.{LeafCounts}
@@ -43,15 +43,4 @@ module _ (t u : Tree) (n : ℕ) (links : List ℕ) where
     pub counted : before ≡ crossings here at
     pub recounted : after ≡ crossings here (free here side at)
     pub leaves : layoutsFrom l r ≡ free here side at
-    pub holds : InMemory t u n links L l R r
-
-  -- The turns of a run after the first, which led to the layouts `at`.
-  pub record GoneOn (at : Layouts) (allowance last turns settled : ℕ) (L l R r : List ℕ) : Type 0 where
-    pub ran : ComesTo (crossings here) (onward (crossings here) (free here) allowance at) last turns settled (layoutsFrom l r)
-    pub holds : InMemory t u n links L l R r
-
-  -- A run from the layouts `at` under an allowance.
-  pub record RunTaken (at : Layouts) (allowance first last turns settled : ℕ) (L l R r : List ℕ) : Type 0 where
-    pub first-count : first ≡ crossings here at
-    pub ran : ComesTo (crossings here) (run (crossings here) (free here) allowance at) last turns settled (layoutsFrom l r)
     pub holds : InMemory t u n links L l R r

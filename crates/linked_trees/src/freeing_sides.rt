@@ -12,7 +12,7 @@ ghost use Rattle.trees.specs.Exchange.{givenTree};
 ghost use Rattle.trees.specs.Rows.{Good, size, treeOf};
 ghost use Rattle.leaf_arrays.specs.Arrays.{OneToN};
 ghost use Rattle.freeing.specs.Row.{InOrder, RowsFreed};
-ghost use Rattle.turns.specs.Memory.{Counted, InMemory, layoutsFrom, orderIn, SideFreed};
+ghost use Rattle.linked_trees.specs.Memory.{Counted, InMemory, layoutsFrom, orderIn, SideFreed};
 use freeing::Sums;
 use freeing::free_rows;
 use linked_orders::far_of_left;

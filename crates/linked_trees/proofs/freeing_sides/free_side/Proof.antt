@@ -1,12 +1,12 @@
 -- `free_side`: the counts and the side's own order are at hand, and it is freed by what it sees.
 use mathlib.Core.Path.{refl, sym, _∙_}
 use borrow.Author.Tests.{eq-eqb, ne-eqb}
-use Rattle.turns.specs.Memory.{Counted}
-use Rattle.turns.proofs.Orders.{walked}
-use Rattle.turns.proofs.SideFreed.{left-freed, right-freed}
+use Rattle.linked_trees.specs.Memory.{Counted}
+use Rattle.linked_trees.proofs.Orders.{walked}
+use Rattle.linked_trees.proofs.SideFreed.{left-freed, right-freed}
 use borrow.Author.Needs.{needs}
-use Rattle.turns.proofs.freeing_sides.free_side.Statement.{statement}
-use Rattle.turns.proofs.freeing_sides.free_side.Tie as tie
+use Rattle.linked_trees.proofs.freeing_sides.free_side.Statement.{statement}
+use Rattle.linked_trees.proofs.freeing_sides.free_side.Tie as tie
 
 abbrev startOf : tie.After-count-leaves2 → tie.Start
 startOf c = c .before .before .before .before .before .before .before .before

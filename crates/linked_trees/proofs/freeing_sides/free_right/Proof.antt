@@ -5,11 +5,11 @@ use Rattle.trees.specs.Rows.{size}
 use Rattle.leaf_arrays.specs.Arrays.{OneToN}
 use Rattle.crossings.proofs.Count.{near-apart}
 use Rattle.freeing.specs.Row.{InOrder}
-use Rattle.turns.proofs.Orders.{walked, in-order-one, a-side}
-use Rattle.turns.proofs.SideFreed.{side-once, freed-seen-right}
+use Rattle.linked_trees.proofs.Orders.{walked, in-order-one, a-side}
+use Rattle.linked_trees.proofs.SideFreed.{side-once, freed-seen-right}
 use borrow.Author.Needs.{needs}
-use Rattle.turns.proofs.freeing_sides.free_right.Statement.{statement}
-use Rattle.turns.proofs.freeing_sides.free_right.Tie as tie
+use Rattle.linked_trees.proofs.freeing_sides.free_right.Statement.{statement}
+use Rattle.linked_trees.proofs.freeing_sides.free_right.Tie as tie
 
 abbrev startOf : tie.After-leaf-order → tie.Start
 startOf c = c .before .before .before .before

@@ -2,10 +2,10 @@
 use mathlib.Core.Path.{refl, sym, ap, _∙_}
 use borrow.Author.Tests.{eq-eqb, ne-eqb}
 use Rattle.tanglegram.proofs.Sides.{second-side}
-use Rattle.turns.proofs.SideFreed.{left-freed, right-freed}
+use Rattle.linked_trees.proofs.SideFreed.{left-freed, right-freed}
 use borrow.Author.Needs.{needs}
-use Rattle.turns.proofs.freeing_sides.take_turn.Statement.{statement}
-use Rattle.turns.proofs.freeing_sides.take_turn.Tie as tie
+use Rattle.linked_trees.proofs.freeing_sides.take_turn.Statement.{statement}
+use Rattle.linked_trees.proofs.freeing_sides.take_turn.Tie as tie
 
 free-left-requires : tie.Need-free-left-requires
 free-left-requires c κs =
