@@ -4,9 +4,7 @@
 # record that takes most, and the bytes together with the record's own 6,142. Ends with 1 if that is more than the limit
 # for a call, if an order takes more stack than its own, or if a call refuses or answers another order than expected.
 # Runs on x86-64, and on Arm by a cross compiler and the kit's emulator.
-set -euo pipefail
-cd "$(dirname "$0")/../.."
-. host/measure/tools.sh
+. "$(dirname "$0")/../archive.sh"
 x86_tools
 record=6142 order_limit=8192 limit=$((16384 + record))
 

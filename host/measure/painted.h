@@ -1,5 +1,5 @@
-/* A painted stack: a job runs on a stack of its own that holds one byte over and over, and the deepest byte that
- * changed is how far it reached. */
+/* A painted stack: a job runs on a stack of its own that is filled with one byte, and the deepest byte that changed is
+ * how far it reached. */
 #ifndef PAINTED_H
 #define PAINTED_H
 

@@ -3,9 +3,7 @@
 # largest stack: size.sh [NAME], the library whose archive is measured, `tangle` if none is named. Prints the bytes of
 # each part; ends with 1 if they are more than 65,536 together. The stack is the most that host/measure/calls.sh finds.
 # C's functions that the code calls (it names them) are outside, and so is the caller's own code and memory.
-set -euo pipefail
-cd "$(dirname "$0")/../.."
-. host/measure/tools.sh
+. "$(dirname "$0")/../archive.sh"
 x86_tools
 name=${1:-tangle}
 limit=65536 record=6142
@@ -14,7 +12,7 @@ bash host/measure/calls.sh > target/measure/calls.txt || { cat target/measure/ca
 [ "$name" = tangle ] || archive "$name" # calls.sh made that one
 stack=$(sed -n 's/^most: \([0-9]*\) bytes of stack.*/\1/p' target/measure/calls.txt)
 
-# The sections that a linked program holds in memory: code, constants, and data that changes, of which there is none.
+# The sections that a linked program has in memory: code, constants, and data that changes, of which there is none.
 "${tool}objdump" -h "target/staticlib/lib$name.a" | awk '
   $1 ~ /^[0-9]+$/ { section = $2; size = $3 }
   /ALLOC/ { print (/CODE/ ? "code" : /READONLY/ ? "constants" : "data"), size, section }' > target/measure/sections

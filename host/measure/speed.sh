@@ -6,15 +6,13 @@
 #
 # The archive is for x86-64 and is linked there. On Arm, whose emulator's times say nothing, the same LLVM module is
 # compiled for Arm, by the kit's compiler and as the kit compiles it (-O3).
-set -euo pipefail
-cd "$(dirname "$0")/../.."
-. host/measure/tools.sh
+. "$(dirname "$0")/../archive.sh"
 work=target/measure/speed.d
 times=${1:-2}
 mkdir -p "$work"
 
 compiled_here() { # the archive's module compiled for this machine, as $work/calls.o
-  local compiler=$kit/on/$machine/toolchain/bin/clang
+  local compiler=$toolchain/bin/clang
   # As text, without what names x86-64: its layout of data, its name, and its processor.
   "$compiler" --no-default-config --target=x86_64-unknown-linux-gnu -S -emit-llvm -O3 -Xclang -disable-llvm-passes \
     -x ir target/measure/tangle.bc -o "$work/module.ll"
@@ -23,17 +21,14 @@ compiled_here() { # the archive's module compiled for this machine, as $work/cal
     -O3 -Werror -Wno-override-module -c -x ir "$work/module.ll" -o "$work/calls.o"
 }
 
-if ! { command -v gcc && command -v cargo; } > /dev/null; then
-  { apt-get update && apt-get install -y --no-install-recommends gcc libc6-dev cargo; } > /dev/null
-fi
+own_compiler
+peer_cargo build
 archive tangle
 case $machine in
   x86_64) calls=target/staticlib/libtangle.a ;;
   *) compiled_here; calls=$work/calls.o ;;
 esac
 gcc "${strict[@]}" -o "$work/speed" host/measure/speed.c "$calls"
-cargo build --quiet --release --manifest-path host/peer/Cargo.toml --target-dir target/peer
-peer=target/peer/release/peer
 
 line_for() { # CALL FILE: desk's line for the same call
   local hex

@@ -1,14 +1,14 @@
 #!/usr/bin/env bash
 # desk.sh [SEED [COUNT]]: makes COUNT calls by the seed, has desk and the peer answer them, and compares; by default
 # 20,000 calls by seed 1. Then the limits of the input, one byte to either side. Ends with 1 at the first difference.
-. "$(dirname "$0")/programs.sh"
+. "$(dirname "$0")/../programs.sh"
 build
 seed=${1:-1} count=${2:-20000}
 
 # compare FILE: desk's answers and the peer's to the calls in FILE, which has 1 MiB at most.
 compare() {
   timeout 600 "$peer" answers < "$1" > "$1.want"
-  timeout 600 bash -c '. host/test/programs.sh; program desk' < "$1" > "$1.got"
+  timeout 600 bash -c '. host/programs.sh; program desk' < "$1" > "$1.got"
   cmp "$1.want" "$1.got" || { echo "desk and the peer differ on $1"; exit 1; }
 }
 

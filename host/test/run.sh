@@ -1,16 +1,18 @@
 #!/usr/bin/env bash
 # All host tests, after rt has proved the crates. Two groups go on at a time: the peer's own tests, then desk and sheet
 # beside the peer; and the C boundary, then the stack, code and data of the calls. What they print stays in this order.
-# Then speed, by itself. Ends with 1 if one of them fails, and prints a group that failed last.
-set -euo pipefail
-cd "$(dirname "$0")/../.."
+# Then speed, by itself. Ends with 1 if one of them fails, and prints a group that failed last. What is missing is
+# installed before the groups, since only one can install at a time.
+. "$(dirname "$0")/../tools.sh"
+x86_tools
+own_compiler
+needs cargo -- cargo
 export ARCHIVES=target/test/archives
 rm -rf "$ARCHIVES"
 mkdir -p "$ARCHIVES"
 
 beside_the_peer() {
-  CARGO_TARGET_DIR=target/peer cargo test --quiet --release --offline --manifest-path host/peer/Cargo.toml \
-    > target/peer.log 2>&1 || { cat target/peer.log; return 1; }
+  peer_cargo test > target/peer.log 2>&1 || { cat target/peer.log; return 1; }
   grep '^test result' target/peer.log | tail -n 1
   bash host/test/desk.sh
   bash host/test/sheet.sh

@@ -1,7 +1,7 @@
 #!/usr/bin/env bash
 # Compares sheet with the peer's sheet: records of all shapes and sizes, each hold, cut short, too long, empty, damaged,
 # and given in pieces. Ends with 1 at the first difference.
-. "$(dirname "$0")/programs.sh"
+. "$(dirname "$0")/../programs.sh"
 build
 records=0
 

@@ -3,7 +3,7 @@
 # seed 7, which begin with both sides of every limit: the first 4,000 of up to 260 bytes; of up to 5,000 the first 20,
 # hand lists of 1,023 to 1,025 entries among them; and of the longer ones, over 511 and 512 leaves, the first five
 # checks, the first four packings and the first two of each other call.
-. "$(dirname "$0")/programs.sh"
+. "$(dirname "$0")/../programs.sh"
 build
 "$peer" calls 7 20000 | LC_ALL=C awk '
   length($0) <= 260 { if (++short <= 4000) print; next }

@@ -7,8 +7,9 @@
  * after it, and no call asks for memory of its own but the stack.
  *
  * Each call answers a struct of numbers by value, the refusal first: 0, or the number of the first test that failed, in
- * the order given with the call. A refused call answers zero for every other number and leaves every byte as found. One
- * that is not refused changes what is said with the call, and no other byte.
+ * the order given with the call. A refused call answers zero for every other number and changes no byte. One that is
+ * not refused changes what is said with the call, and no other byte. docs/CALLS.md explains the words used here, and
+ * docs/RECORD.md the record's bytes.
  *
  * Sides, letters, n and allowances are 32 bits wide, and each is tested as it is: side 257 and side 65,537 are refused.
  *
@@ -24,7 +25,7 @@
 extern "C" {
 #endif
 
-/* Refusals, by document 01's numbers. */
+/* Refusals; docs/CALLS.md says more of each. */
 enum tangle_number {
     TANGLE_ACCEPTED = 0,
     TANGLE_SHORT = 1,      /* fewer than 8 bytes */
@@ -129,7 +130,7 @@ struct tangle_refusal tangle_order(const uint8_t *record, size_t length, uint32_
  * Refused: 1 to 10. */
 struct tangle_count tangle_count(const uint8_t *record, size_t length);
 
-/* The same number, counted pair by pair, to hold the other against.
+/* The same number, counted pair by pair, to compare the other with.
  * Refused: 1 to 10. */
 struct tangle_count tangle_pairs(const uint8_t *record, size_t length);
 

@@ -1,7 +1,6 @@
-/* Checks the thirteen calls for C against document 01: the bench examples, every refusal, in the order of tests,
- * numbers wider than 8 and 16 bits, that a refused call changes no byte, and that none writes beyond what it was lent.
- * Numbers are literals, from the paper or worked out by hand. Prints each check that failed; ends with 0 only if none
- * did.
+/* Checks the thirteen calls for C against docs/CALLS.md: its examples, every refusal, in the order of tests, numbers
+ * wider than 8 and 16 bits, that a refused call changes no byte, and that none writes beyond what it was lent. Numbers
+ * are literals, the customer's or worked out by hand. Prints each check that failed; ends with 0 only if none did.
  */
 #include <stdio.h>
 #include <string.h>
@@ -16,16 +15,16 @@ _Static_assert(offsetof(struct tangle_entanglement, ratio) == 16, "the double is
 _Static_assert(sizeof(struct tangle_refusal) == 4, "one");
 _Static_assert(sizeof(struct tangle_better) == 12 && sizeof(struct tangle_unpack) == 12, "three");
 _Static_assert(sizeof(struct tangle_entry) == 8 && offsetof(struct tangle_entry, row) == 4, "two numbers of 32 bits");
-_Static_assert(TANGLE_ACCEPTED == 0 && TANGLE_SHORT == 1 && TANGLE_MARK == 2 && TANGLE_VERSION == 3, "01");
-_Static_assert(TANGLE_HOLD == 4 && TANGLE_SIZE == 5 && TANGLE_LENGTH == 6 && TANGLE_LEFT_ROW == 7, "01");
-_Static_assert(TANGLE_RIGHT_ROW == 8 && TANGLE_LINKS == 9 && TANGLE_LAYOUT == 10, "01");
-_Static_assert(TANGLE_HELD == 11 && TANGLE_ALLOWANCE == 12 && TANGLE_SIDE == 13, "01");
-_Static_assert(TANGLE_ROOM == 14 && TANGLE_ROW == 15 && TANGLE_ORDER == 16 && TANGLE_HANDS == 17, "01");
-_Static_assert(TANGLE_LEFT == 1 && TANGLE_RIGHT == 2 && TANGLE_FIRST == 1 && TANGLE_SECOND == 2, "01");
+_Static_assert(TANGLE_ACCEPTED == 0 && TANGLE_SHORT == 1 && TANGLE_MARK == 2 && TANGLE_VERSION == 3, "docs/CALLS.md");
+_Static_assert(TANGLE_HOLD == 4 && TANGLE_SIZE == 5 && TANGLE_LENGTH == 6 && TANGLE_LEFT_ROW == 7, "docs/CALLS.md");
+_Static_assert(TANGLE_RIGHT_ROW == 8 && TANGLE_LINKS == 9 && TANGLE_LAYOUT == 10, "docs/CALLS.md");
+_Static_assert(TANGLE_HELD == 11 && TANGLE_ALLOWANCE == 12 && TANGLE_SIDE == 13, "docs/CALLS.md");
+_Static_assert(TANGLE_ROOM == 14 && TANGLE_ROW == 15 && TANGLE_ORDER == 16 && TANGLE_HANDS == 17, "docs/CALLS.md");
+_Static_assert(TANGLE_LEFT == 1 && TANGLE_RIGHT == 2 && TANGLE_FIRST == 1 && TANGLE_SECOND == 2, "docs/CALLS.md");
 _Static_assert(TANGLE_HOLD_NONE == 78 && TANGLE_HOLD_LEFT == 76, "ASCII");
 _Static_assert(TANGLE_HOLD_RIGHT == 82 && TANGLE_HOLD_BOTH == 66, "ASCII");
-_Static_assert(TANGLE_MOST_LEAVES == 512 && TANGLE_MOST_BYTES == 6142, "01");
-_Static_assert(TANGLE_MOST_TURNS == 130818 && TANGLE_MOST_HANDS == 1024, "01");
+_Static_assert(TANGLE_MOST_LEAVES == 512 && TANGLE_MOST_BYTES == 6142, "docs/RECORD.md");
+_Static_assert(TANGLE_MOST_TURNS == 130818 && TANGLE_MOST_HANDS == 1024, "docs/CALLS.md");
 
 /* Room for n = 513, and fences before and after what is lent. */
 enum { MOST = 12 * 513 - 2, FENCE = 16 };
@@ -171,8 +170,8 @@ static uint16_t *places(struct buffer *b)
     return b->room + FENCE;
 }
 
-/* The buffer holds this in its first bytes, and was not touched elsewhere. */
-static void holds(int line, const struct buffer *b, const void *content, size_t size)
+/* The buffer has this in its first bytes, and was not touched elsewhere. */
+static void contains(int line, const struct buffer *b, const void *content, size_t size)
 {
     static struct buffer expected;
 
@@ -194,7 +193,7 @@ static void order(int line, uint32_t side, size_t lent, uint32_t refusal, const 
     kept = r;
     clear(&out);
     check(line, "refusal", tangle_order(bytes(), r.length, side, places(&out), lent).refusal, refusal);
-    holds(line, &out, leaves, n * sizeof *leaves);
+    contains(line, &out, leaves, n * sizeof *leaves);
     same_bytes(line, &kept);
 }
 
@@ -329,11 +328,11 @@ static void unpack_refused(int line, size_t n, int shortened, uint32_t refusal)
     check(line, "refusal", u.refusal, refusal);
     check(line, "hold", u.hold, 0);
     check(line, "n", u.n, 0);
-    holds(line, &parts.left, NULL, 0);
-    holds(line, &parts.right, NULL, 0);
-    holds(line, &parts.links, NULL, 0);
-    holds(line, &parts.left_layout, NULL, 0);
-    holds(line, &parts.right_layout, NULL, 0);
+    contains(line, &parts.left, NULL, 0);
+    contains(line, &parts.right, NULL, 0);
+    contains(line, &parts.links, NULL, 0);
+    contains(line, &parts.left_layout, NULL, 0);
+    contains(line, &parts.right_layout, NULL, 0);
     same_bytes(line, &kept);
 }
 
@@ -380,7 +379,7 @@ static void layouts(int line, const char *digits)
     check(line, "a byte before the layouts changed", memcmp(r.room, kept.room, FENCE + r.length - k) != 0, 0);
 }
 
-/* ---- document 01's bench examples */
+/* ---- the examples of docs/CALLS.md */
 
 static void examples_1_to_4(void)
 {
@@ -726,11 +725,11 @@ static void parts_of_case2(void)
     check(__LINE__, "refusal", u.refusal, 0);
     check(__LINE__, "hold", u.hold, 'L');
     check(__LINE__, "n", u.n, 4);
-    holds(__LINE__, &parts.left, caterpillar, sizeof caterpillar);
-    holds(__LINE__, &parts.right, balanced, sizeof balanced);
-    holds(__LINE__, &parts.links, identity, sizeof identity);
-    holds(__LINE__, &parts.left_layout, left_layout, sizeof left_layout);
-    holds(__LINE__, &parts.right_layout, right_layout, sizeof right_layout);
+    contains(__LINE__, &parts.left, caterpillar, sizeof caterpillar);
+    contains(__LINE__, &parts.right, balanced, sizeof balanced);
+    contains(__LINE__, &parts.links, identity, sizeof identity);
+    contains(__LINE__, &parts.left_layout, left_layout, sizeof left_layout);
+    contains(__LINE__, &parts.right_layout, right_layout, sizeof right_layout);
     same_bytes(__LINE__, &kept);
     pack(__LINE__, 4, 'L', 4, 0, 46, 0);
     pack(__LINE__, 4, 'L', 4, 0, MOST, 0);

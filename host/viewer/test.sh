@@ -2,9 +2,7 @@
 # The calls for C: builds the archive of crates/tangle, compiles test.c and viewer.c against it, runs both. Ends with 0
 # and one line that says so only if every check passed. Runs on x86-64, and on Arm by a cross compiler and the kit's
 # emulator.
-set -euo pipefail
-cd "$(dirname "$0")/../.."
-. host/measure/tools.sh
+. "$(dirname "$0")/../archive.sh"
 x86_tools
 
 out=target/viewer

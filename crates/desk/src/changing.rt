@@ -6,8 +6,8 @@ use crate::parsing::hands as hands_in;
 use crate::parsing::number;
 use crate::room;
 use crate::words::word;
-use table::answers::Freed;
-use table::answers::Ran;
+use calls_turns::answers::Freed;
+use calls_turns::answers::Ran;
 
 // NUMBER RECORD
 fn done(number: u16, s: &[u8]) {
@@ -36,7 +36,7 @@ pub fn free(line: &[u8], s: &mut [u8]) {
     if 65535 < side {
         return no_call();
     }
-    let answer = table::free(&mut s[..n], side as u16);
+    let answer = calls_turns::free(&mut s[..n], side as u16);
     freed(answer, &s[..n])
 }
 
@@ -62,7 +62,7 @@ pub fn run(line: &[u8], s: &mut [u8]) {
     if 0xffff_ffff < allowance {
         return no_call();
     }
-    let answer = table::run(&mut s[..n], allowance as u32);
+    let answer = calls_turns::run(&mut s[..n], allowance as u32);
     ran(answer, &s[..n])
 }
 
@@ -85,7 +85,7 @@ fn hand_list(line: &[u8], s: &mut [u8]) {
 }
 
 fn handed(s: &mut [u8], xs: &[u32]) {
-    let answer = hands::hands(s, xs);
+    let answer = calls_hands::hands(s, xs);
     done(answer.number, s)
 }
 

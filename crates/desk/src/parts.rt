@@ -10,7 +10,7 @@ use crate::room;
 use crate::words::part;
 use crate::words::part_bytes;
 use crate::words::word;
-use unpacking::unpacking::Unpacked;
+use record_unpacking::unpacking::Unpacked;
 
 // pack HOLD N LEFT RIGHT LINKS LAYOUT LAYOUT OUT -> NUMBER OUT
 pub fn pack(line: &[u8], s: &mut [u8], xs: &mut [u16], layouts: &mut [u8]) {
@@ -98,7 +98,7 @@ fn pack_all(
     if 65535 < n {
         return no_call();
     }
-    let done = packing::pack(
+    let done = record_packing::pack(
         hold as u8,
         n as u16,
         left,
@@ -195,7 +195,7 @@ fn unpack_all(
     leftlayout: &mut [u8],
     rightlayout: &mut [u8],
 ) {
-    let answer = unpacking::unpack(s, left, right, links, leftlayout, rightlayout);
+    let answer = record_unpacking::unpack(s, left, right, links, leftlayout, rightlayout);
     unpacked(answer, left, right, links, leftlayout, rightlayout)
 }
 

@@ -8,8 +8,8 @@ use crate::parsing::list as list_in;
 use crate::parsing::number;
 use crate::words::part;
 use crate::words::word;
-use views::answers::Counted;
-use views::answers::Entangled;
+use calls_show::answers::Counted;
+use calls_show::answers::Entangled;
 
 // check RECORD -> NUMBER
 pub fn check(line: &[u8], s: &mut [u8]) {
@@ -40,7 +40,7 @@ pub fn order(line: &[u8], s: &mut [u8], xs: &mut [u16]) {
 }
 
 fn ordered(s: &[u8], side: u16, xs: &mut [u16]) {
-    let done = views::order(s, side, xs);
+    let done = calls_show::order(s, side, xs);
     printing::entry(done.number);
     next_list(xs);
     printing::end();
@@ -61,9 +61,9 @@ pub fn count(line: &[u8], paired: bool, s: &mut [u8]) {
 
 fn counted(s: &[u8], paired: bool) -> Counted {
     if paired {
-        return views::pairs(s);
+        return calls_show::pairs(s);
     }
-    views::count(s)
+    calls_show::count(s)
 }
 
 // NUMBER 0 0 none
@@ -95,7 +95,7 @@ pub fn entanglement(line: &[u8], s: &mut [u8]) {
     if s.len() < n {
         return no_call();
     }
-    match views::entanglement(&s[..n]) {
+    match calls_show::entanglement(&s[..n]) {
         Entangled::Ratio(d, w, x) => ratio(d, w, x),
         Entangled::NoRatio => no_ratio(0),
         Entangled::Refused(refusal) => no_ratio(refusal.number),
@@ -132,10 +132,10 @@ fn better_orders(line: &[u8], check: bool, s: &[u8], xs: &mut [u16]) {
 
 fn compared<'a>(check: bool, s: &[u8], side: u16, first: &'a [u16], second: &'a [u16]) {
     if check {
-        let found = proposals::better_check(s, side, first, second);
+        let found = calls_better::better_check(s, side, first, second);
         printing::entry(found.number);
         return printing::end();
     }
-    list(proposals::better(s, side, first, second));
+    list(calls_better::better(s, side, first, second));
     printing::end();
 }

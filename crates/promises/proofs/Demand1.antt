@@ -1,18 +1,16 @@
--- Demand 1, from what is proved of the calls on records and on tables.
+-- Demand 1, from what is proved of the calls.
 use Rattle.promises.specs.Demand1.{Demand1}
-use Rattle.promises.proofs.RecordOutcomes.{record-outcomes}
-use Rattle.promises.proofs.TableOutcomes.{table-outcomes}
-use Rattle.promises.proofs.RecordRefused.{record-refused}
-use Rattle.promises.proofs.TableRefused.{table-refused}
+use Rattle.promises.proofs.Outcomes.{outcomes}
+use Rattle.promises.proofs.Tests.{tests}
+use Rattle.promises.proofs.RefusedCalls.{refused-calls}
 use Rattle.promises.proofs.HeldStays.{held-stays}
 use Rattle.promises.proofs.SetHoldOnly.{set-hold-only}
 
 pub demand1 : Demand1
 demand1 = record {
-  one-outcome-of-records = record-outcomes;
-  one-outcome-of-tables = table-outcomes;
-  refused-of-records = record-refused;
-  refused-of-tables = table-refused;
+  one-outcome = outcomes;
+  tests-mean = tests;
+  refused-keeps = refused-calls;
   held-never-moved = held-stays;
   hold-set-only = set-hold-only;
 }

@@ -7,20 +7,20 @@ use native.Mathlib.Omega.{arith}
 use borrow.Author.Tests.{eq-eqb}
 use Rattle.tanglegram.specs.Lists.{bit}
 use Rattle.tanglegram.specs.Run.{Side, left, right, other, after}
-use Rattle.tanglegram.specs.Table.{Table, Layouts, put, crossings, free, Least}
-use Rattle.tanglegram.proofs.Freeing.{every-layout}
+use Rattle.tanglegram.specs.Table.{Table, Layouts, crossings, free, Least, Fits}
+use Rattle.tanglegram.proofs.Lists.{bit-most}
 use Rattle.tanglegram.proofs.Run.{stays-good, no-rise}
-use Rattle.tanglegram.proofs.Table.{Fits, frees, run-table}
-use Rattle.format.specs.Fields.{holdOf}
-use Rattle.format.specs.Refusals.{refusal}
-use Rattle.format.specs.Meaning.{tableOf, layoutsOf, relaid}
-use Rattle.format.proofs.Acceptance.{accepted-sized}
-use Rattle.format.proofs.Meaning.{accepted-fair, accepted-fits, fits-long, layouts-of-relaid, table-relaid}
-use Rattle.standing.specs.Sides.{holds}
-use Rattle.table.specs.Refusals.{running}
-use Rattle.standing.specs.Shown.{shownCount}
-use Rattle.table.specs.Calls.{ranTo}
-use Rattle.table.proofs.Turns.{allowed, running-0}
+use Rattle.tanglegram.proofs.Table.{frees, table-run}
+use Rattle.record_fields.specs.Fields.{holdOf}
+use Rattle.record_fields.specs.Refusals.{refusal}
+use Rattle.record_fields.specs.Meaning.{tableOf, layoutsOf, relaid}
+use Rattle.record_fields.proofs.Acceptance.{accepted-sized}
+use Rattle.record_fields.proofs.Meaning.{accepted-fair, accepted-fits, fits-long, layouts-of-relaid, table-relaid}
+use Rattle.record_arrays.specs.Sides.{holds}
+use Rattle.calls_turns.specs.Refusals.{runRefusal}
+use Rattle.record_arrays.specs.Shown.{shownCount}
+use Rattle.calls_turns.specs.Calls.{ranTo}
+use Rattle.calls_turns.proofs.Turns.{allowance-good, running-0}
 use Rattle.promises.specs.Demand3.{nextAfter, countAfter, Demand3}
 
 -- `N` holds no side
@@ -37,10 +37,6 @@ bit-false : (b : Bool) → bit b ≡ 0 → b ≡ false
 bit-false true e = absurd (omega arith)
 bit-false false e = refl
 
-bit-most : (b : Bool) → bit b ≤ 1
-bit-most true = omega arith
-bit-most false = omega arith
-
 -- a run that settles at the second turn or later does not settle where one turn is taken
 not-one : (b : Bool) (turns : ℕ) → (b ≡ true → 2 ≤ turns) → turns ≤ 1 → bit b ≡ 0
 not-one true turns two one = let p = two refl in absurd (omega arith)
@@ -55,11 +51,11 @@ last-less zero f two h = absurd (omega arith)
 last-less (suc j) f two h = h j (omega arith) (omega arith)
 
 -- one turn more is the freeing of the side that is next
-one-more : {S : Type 0} (free : Side → S → S) (j : ℕ) (side : Side) (s : S) →
+one-turn-more : {S : Type 0} (free : Side → S → S) (j : ℕ) (side : Side) (s : S) →
     after free (suc j) side s ≡ free (nextAfter j side) (after free j side s)
 unfolding after nextAfter
-one-more free zero side s = refl
-one-more free (suc j) side s = one-more free j (other side) (free side s)
+one-turn-more free zero side s = refl
+one-turn-more free (suc j) side s = one-turn-more free j (other side) (free side s)
 
 pub demand3 : Demand3
 demand3 = record {
@@ -68,10 +64,10 @@ demand3 = record {
       let F = accepted-fair s a in
       let fits = accepted-fits s a in
       let E = ranTo s allowance in
-      let ends = run-table T F allowance (layoutsOf s) fits in
+      let ends = table-run T F allowance (layoutsOf s) fits in
       let n-free = not-held (holdOf s) left h in
-      let z = sym (running-0 s allowance (allowed allowance (omega arith) most) a n-free (not-held (holdOf s) right h)) in
-      let q = eq-eqb (running s allowance) 0 z in
+      let z = sym (running-0 s allowance (allowance-good allowance (omega arith) most) a n-free (not-held (holdOf s) right h)) in
+      let q = eq-eqb (runRefusal s allowance) 0 z in
       let new-fits = subst (Fits F) (sym (ends .is-after))
       (stays-good (Fits F) (crossings T) (Least T) (free T) (frees T F) (E .turns) left (layoutsOf s) fits) in
       let l = fits-long s a (E .last) new-fits left in
@@ -81,7 +77,7 @@ demand3 = record {
       let last : answer .last ≡ crossings T (E .last) = ap (λ x. x .last) (o .answers) ∙ rw q refl in
       let settled : answer .settled ≡ bit (E .settled) = ap (λ x. x .settled) (o .answers) ∙ rw q refl in
       let second : (E .settled ≡ true → 2 ≤ E .turns) = λ e. let stop = ends .stops e in omega (arith, stop .1, stop .2) in
-      let left-behind : s′ ≡ relaid s (E .last) = o .leaves ∙ rw q refl in
+      let left-behind : s′ ≡ relaid s (E .last) = o .afterwards ∙ rw q refl in
       let table-same : tableOf s′ ≡ T = ap tableOf left-behind ∙ table-relaid s (accepted-sized s a) (E .last) l r in
       let laid : layoutsOf s′ ≡ E .last = ap layoutsOf left-behind ∙ layouts-of-relaid s (accepted-sized s a) (E .last) l r in
       record {
@@ -94,7 +90,7 @@ demand3 = record {
         few-turns = rw (turns, last, first) (ends .few);
         goes-on = λ j p lt. ends .goes-on j p (rw turns at lt);
         two-turns = λ p. rw turns (ends .enough p);
-        each-frees = λ j. one-more (free T) j left (layoutsOf s);
+        each-frees = λ j. one-turn-more (free T) j left (layoutsOf s);
         settled-or-not = rw settled (bit-most (E .settled));
         last-gained-nothing = λ e.
             let stop = ends .stops (bit-true (E .settled) (sym settled ∙ e)) in
@@ -105,15 +101,13 @@ demand3 = record {
         not-by-one = λ e. settled ∙ not-one (E .settled) (E .turns) second (omega (arith, ends .allowed));
         in-time = λ p. settled ∙ ap bit (ends .in-time (rw first at p));
         used-up = λ e. turns ∙ ends .used-up (bit-false (E .settled) (sym settled ∙ e));
-        least = λ e side any.
+        least = λ e side.
             let both = ends .both (bit-true (E .settled) (sym settled ∙ e)) in
-            subst (λ k. k ≤ crossings (tableOf s′) (put side any (layoutsOf s′))) (sym last)
-            (subst (λ X. crossings T (E .last) ≤ crossings X (put side any (layoutsOf s′))) (sym table-same)
-            (subst (λ L. crossings T (E .last) ≤ crossings T (put side any L)) (sym laid) (of-either T (E .last) both side any)));
+            subst (λ X. Least X side (layoutsOf s′)) (sym table-same)
+            (subst (Least T side) (sym laid) (of-either T (E .last) both side));
       };
 }
   where
-    of-either : (T : Table) (x : Layouts) → Least T left x × Least T right x → (side : Side) (any : List ℕ) →
-        crossings T x ≤ crossings T (put side any x)
-    of-either T x both left any = both .0 any (every-layout (x .left-bytes) any)
-    of-either T x both right any = both .1 any (every-layout (x .right-bytes) any)
+    of-either : (T : Table) (x : Layouts) → Least T left x × Least T right x → (side : Side) → Least T side x
+    of-either T x both left = both .0
+    of-either T x both right = both .1

@@ -12,24 +12,25 @@ use Rattle.tanglegram.specs.Order.{order, turnRow}
 use Rattle.tanglegram.specs.Run.{Side, left, right, other, run, after}
 use Rattle.tanglegram.specs.Table.{Table, Layouts, layout, put, crossings, free, Least}
 use Rattle.tanglegram.proofs.Run.{stays-good}
-use Rattle.tanglegram.proofs.Table.{Fair, Fits, free-fits, free-small, frees, run-table}
-use Rattle.format.specs.Fields.{holdOf, sizeOf, leftLayoutAt}
-use Rattle.format.specs.Refusals.{isLayout, refusal}
-use Rattle.format.specs.Refused.{accepted}
-use Rattle.format.specs.Meaning.{tableOf, layoutsOf, relaid}
-use Rattle.format.proofs.Acceptance.{accepted-sized, accepted-parts}
-use Rattle.format.proofs.Meaning.{accepted-fair, accepted-fits, fits-long, length-relaid, layouts-of-relaid, hold-relaid}
-use Rattle.format.proofs.Meaning.{size-relaid, parts-relaid, table-relaid, relaid-accepted}
-use Rattle.format.proofs.Tests.{layout-small, small-layout}
-use Rattle.standing.specs.Sides.{sideOf, holds}
-use Rattle.hands.specs.Refusals.{Hand, handing}
-use Rattle.table.specs.Refusals.{freeing, running}
-use Rattle.table.specs.Calls.{freedLayouts, ranTo}
-use Rattle.hands.specs.Calls.{handed}
-use Rattle.table.proofs.Turns.{freeing-good, running-good}
-use Rattle.hands.proofs.HandLists.{handing-accepted}
-use Rattle.hands.proofs.Handed.{held-kept}
-use Rattle.hands.proofs.TurnedRows.{turned-bytes}
+use Rattle.tanglegram.specs.Table.{Fair, Fits}
+use Rattle.tanglegram.proofs.Table.{free-fits, free-small, frees, table-run}
+use Rattle.record_fields.specs.Fields.{holdOf, sizeOf, leftLayoutAt}
+use Rattle.record_fields.specs.Refusals.{isLayout, refusal}
+use Rattle.record_fields.specs.Refused.{accepted}
+use Rattle.record_fields.specs.Meaning.{tableOf, layoutsOf, relaid}
+use Rattle.record_fields.proofs.Acceptance.{accepted-sized, accepted-parts}
+use Rattle.record_fields.proofs.Meaning.{accepted-fair, accepted-fits, fits-long, length-relaid, layouts-of-relaid, hold-relaid}
+use Rattle.record_fields.proofs.Meaning.{size-relaid, parts-relaid, table-relaid, relaid-accepted}
+use Rattle.record_fields.proofs.Tests.{layout-small, small-layout}
+use Rattle.record_arrays.specs.Sides.{sideOf, holds}
+use Rattle.calls_hands.specs.Refusals.{Hand, handsRefusal}
+use Rattle.calls_turns.specs.Refusals.{freeRefusal, runRefusal}
+use Rattle.calls_turns.specs.Calls.{freedLayouts, ranTo}
+use Rattle.calls_hands.specs.Calls.{handed}
+use Rattle.calls_turns.proofs.Turns.{freeing-good, running-good}
+use Rattle.calls_hands.proofs.HandLists.{handing-accepted}
+use Rattle.calls_hands.proofs.Handed.{held-kept}
+use Rattle.calls_hands.proofs.TurnedRows.{turned-bytes}
 use Rattle.promises.specs.HeldStays as HeldStays
 use Rattle.promises.specs.HeldStays.{SameTrees, Keeps}
 
@@ -99,7 +100,7 @@ after-bytes T F zero side L fits b = b
 after-bytes T F (suc j) side L fits b =
     after-bytes T F j (other side) (free T side L) (free-fits T F side L fits) (freed-bytes T F side L fits b)
 
-free-keeps : (s : List ℕ) (side : ℕ) → freeing s side ≡ 0 → Keeps s (relaid s (freedLayouts s side))
+free-keeps : (s : List ℕ) (side : ℕ) → freeRefusal s side ≡ 0 → Keeps s (relaid s (freedLayouts s side))
 free-keeps s side e =
     let g = freeing-good s side e in
     let a = g .1 in
@@ -115,13 +116,13 @@ free-keeps s side e =
     untouched right left p q = refl
     untouched right right p q = absurd (true≢false (sym q ∙ p))
 
-run-keeps : (s : List ℕ) (allowance : ℕ) → running s allowance ≡ 0 → Keeps s (relaid s (ranTo s allowance .last))
+run-keeps : (s : List ℕ) (allowance : ℕ) → runRefusal s allowance ≡ 0 → Keeps s (relaid s (ranTo s allowance .last))
 run-keeps s allowance e =
     let g = running-good s allowance e in
     let a = g .1 in
     let F = accepted-fair s a in
     let fits = accepted-fits s a in
-    let ends = run-table (tableOf s) F allowance (layoutsOf s) fits in
+    let ends = table-run (tableOf s) F allowance (layoutsOf s) fits in
     let after-fits = stays-good (Fits F) (crossings (tableOf s)) (Least (tableOf s)) (free (tableOf s)) (frees (tableOf s) F)
     (ranTo s allowance .turns) left (layoutsOf s) fits in
     let bytes = after-bytes (tableOf s) F (ranTo s allowance .turns) left (layoutsOf s) fits (its-bytes s a) in
@@ -155,7 +156,7 @@ handed-bytes (h ∷ hs) at b = handed-bytes hs _ (by (sideOf (h .side)))
     by right left = b left
     by right right = turned-bytes (at .right-bytes) (h .row) (b right)
 
-hands-keep : (s : List ℕ) (hands : List Hand) → handing s hands ≡ 0 → Keeps s (relaid s (handed (layoutsOf s) hands))
+hands-keep : (s : List ℕ) (hands : List Hand) → handsRefusal s hands ≡ 0 → Keeps s (relaid s (handed (layoutsOf s) hands))
 hands-keep s hands e =
     let a = handing-accepted s hands e .1 in
     keeps-relaid s a (handed (layoutsOf s) hands) (λ side. handed-long hands (layoutsOf s) side ∙ accepted-fits s a side)
@@ -163,9 +164,9 @@ hands-keep s hands e =
 
 pub held-stays : HeldStays.HeldStays
 held-stays = record {
-  free = λ s side answer s′ o. either s (relaid s (freedLayouts s side)) s′ (freeing s side) (o .leaves) (free-keeps s side);
+  free = λ s side answer s′ o. either s (relaid s (freedLayouts s side)) s′ (freeRefusal s side) (o .afterwards) (free-keeps s side);
   run = λ s allowance answer s′ o.
-      either s (relaid s (ranTo s allowance .last)) s′ (running s allowance) (o .leaves) (run-keeps s allowance);
+      either s (relaid s (ranTo s allowance .last)) s′ (runRefusal s allowance) (o .afterwards) (run-keeps s allowance);
   hands = λ s hands answer s′ o.
-      either s (relaid s (handed (layoutsOf s) hands)) s′ (handing s hands) (o .leaves) (hands-keep s hands);
+      either s (relaid s (handed (layoutsOf s) hands)) s′ (handsRefusal s hands) (o .afterwards) (hands-keep s hands);
 }

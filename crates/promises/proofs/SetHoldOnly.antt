@@ -11,12 +11,12 @@ use lib.ListN.{length, getD, set, length-set}
 use lib.Seq.{getD-set-same, getD-set-other}
 use Rattle.tanglegram.specs.Run.{Side}
 use Rattle.tanglegram.specs.Table.{orderOf}
-use Rattle.format.specs.Meaning.{tableIn, layoutsIn}
-use Rattle.format.specs.Refusals.{isHold, refusal, holding}
-use Rattle.format.specs.Refused.{accepted}
-use Rattle.format.proofs.Acceptance.{accepted-heading, holding-accepted}
-use Rattle.format.proofs.Rehold.{parts-rehold, size-rehold, rehold-accepted}
-use Rattle.standing.specs.Shown.{shownOrder}
+use Rattle.record_fields.specs.Meaning.{tableIn, layoutsIn}
+use Rattle.record_fields.specs.Refusals.{isHold, refusal, setHoldRefusal}
+use Rattle.record_fields.specs.Refused.{accepted}
+use Rattle.record_fields.proofs.Acceptance.{accepted-heading, holding-accepted}
+use Rattle.record_fields.proofs.Rehold.{parts-rehold, size-rehold, rehold-accepted}
+use Rattle.record_arrays.specs.Shown.{shownOrder}
 use Rattle.promises.specs.HeldStays.{SameTrees}
 use Rattle.promises.specs.SetHoldOnly.{SetHoldPromise}
 use Rattle.promises.proofs.HeldStays.{trees-same}
@@ -58,19 +58,20 @@ module _ (s : List ℕ) (letter : ℕ) where
       go false p q = (subst (SameTrees s) (sym q) (trees-same s), λ side. ap (λ r. shownOrder r side) q)
 
 pub set-hold-only : SetHoldPromise
-unfolding holding
+unfolding setHoldRefusal
 set-hold-only s letter answer after p =
-    let b = accepted (holding s letter) in
+    let b = accepted (setHoldRefusal s letter) in
     let number = ap (λ a. a .number) (p .answers) in
-    let kept = trees s letter after (holding s letter) (p .leaves) (holding-accepted s letter) in
+    let kept = trees s letter after (setHoldRefusal s letter) (p .afterwards) (holding-accepted s letter) in
     record {
       puts-the-letter =
           λ z.
-          let e : holding s letter ≡ 0 = sym number ∙ z in
+          let e : setHoldRefusal s letter ≡ 0 = sym number ∙ z in
           let g = accepted-heading s (holding-accepted s letter e .1) in
-          ap (λ r. getD r 5 0) (p .leaves) ∙ rw (eq-eqb (holding s letter) 0 e) (getD-set-same s 5 letter 0 (omega (arith, g .long)));
-      keeps-the-others = λ i h. ap (λ r. getD r i 0) (p .leaves) ∙ others s letter b i h;
-      keeps-the-length = ap length (p .leaves) ∙ long s letter b;
+          ap (λ r. getD r 5 0) (p .afterwards)
+          ∙ rw (eq-eqb (setHoldRefusal s letter) 0 e) (getD-set-same s 5 letter 0 (omega (arith, g .long)));
+      keeps-the-others = λ i h. ap (λ r. getD r i 0) (p .afterwards) ∙ others s letter b i h;
+      keeps-the-length = ap length (p .afterwards) ∙ long s letter b;
       keeps-the-trees = kept .0;
       keeps-the-orders = kept .1;
       bad-letter-first = λ h. number ∙ rw h refl;

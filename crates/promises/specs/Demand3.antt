@@ -5,13 +5,13 @@ use Prim.Native.Nat.{ℕ, zero, suc, pred, _+_, _≤_, _<_}
 use mathlib.Core.Path.{_≡_}
 use mathlib.Core.List.{List}
 use Rattle.tanglegram.specs.Run.{Side, left, other, after}
-use Rattle.tanglegram.specs.Table.{Layouts, put, crossings, free}
-use Rattle.format.specs.Fields.{holdOf}
-use Rattle.format.specs.Refusals.{refusal}
-use Rattle.format.specs.Meaning.{tableOf, layoutsOf, relaid}
-use Rattle.table.specs.declared.answers.Ran.{Ran}
-use Rattle.standing.specs.Shown.{shownCount}
-use Rattle.table.specs.Calls.{Runs}
+use Rattle.tanglegram.specs.Table.{Layouts, crossings, free, Least}
+use Rattle.record_fields.specs.Fields.{holdOf}
+use Rattle.record_fields.specs.Refusals.{refusal}
+use Rattle.record_fields.specs.Meaning.{tableOf, layoutsOf, relaid}
+use Rattle.calls_turns.specs.declared.answers.Ran.{Ran}
+use Rattle.record_arrays.specs.Shown.{shownCount}
+use Rattle.calls_turns.specs.Calls.{Runs}
 
 -- The layouts after j turns, the left first.
 abbrev pub layoutsAfter : List ℕ → ℕ → Layouts
@@ -55,7 +55,7 @@ pub record RunKeeps (s : List ℕ) (allowance : ℕ) (answer : Ran) (s′ : List
   pub in-time : answer .first + 2 ≤ allowance → answer .settled ≡ 1
   pub used-up : answer .settled ≡ 0 → answer .turns ≡ allowance
   -- Settled: no choice on either side alone, the other standing, crosses less.
-  pub least : answer .settled ≡ 1 → (side : Side) (any : List ℕ) → answer .last ≤ crossings (tableOf s′) (put side any (layoutsOf s′))
+  pub least : answer .settled ≡ 1 → (side : Side) → Least (tableOf s′) side (layoutsOf s′)
 
 pub record Demand3 : Type 0 where
   pub run : (s : List ℕ) (allowance : ℕ) (answer : Ran) (s′ : List ℕ) → Runs s allowance answer s′ →

@@ -1,70 +1,79 @@
--- The P examples of document 01, over the calls' definitions: the tanglegram's table of examples, its lines now records of bytes with
--- hold `N`, and example 9, whose lines are refused.
-use Prim.Native.Nat.{ℕ, pred}
+-- The list of examples (`tanglegram`), over the calls' definitions: each line's case is a record of bytes with hold `N`, and what the
+-- calls answer of it is what the line shows; those of example 9 are refused.
+use Prim.Native.Nat.{ℕ, suc}
 use mathlib.Core.Path.{_≡_}
-use mathlib.Core.List.{List, [], _∷_, _++_, map}
+use mathlib.Core.Bool.{Bool, true, false, cond, _&&_}
+use mathlib.Core.List.{List, [], map}
+use mathlib.Core.Option.{Option, some, none}
+use lib.Ieee.{Float}
 use Rattle.tanglegram.specs.Lists.{range}
 use Rattle.tanglegram.specs.Run.{left, right}
-use Rattle.tanglegram.specs.Table.{crossings}
-use Rattle.tanglegram.specs.Examples.{Case, Shown, Line, case, ownOf, examples}
-use Rattle.format.specs.Fields.{given, packed}
-use Rattle.format.specs.Refusals.{refusal}
-use Rattle.format.specs.Meaning.{tableOf}
-use Rattle.table.specs.Refusals.{freeing, running}
-use Rattle.standing.specs.Shown.{shownOrder, shownCount}
-use Rattle.views.specs.Calls.{entangled, displacedIn, worstIn}
-use Rattle.table.specs.Calls.{freedLayouts, ranTo}
+use Rattle.tanglegram.specs.Table.{orderOf, crossings}
+use Rattle.tanglegram.specs.Examples.{Case, Shown, Line, bytesOf, caseOwn, examples}
+use Rattle.record_fields.specs.Fields.{given, packed}
+use Rattle.record_fields.specs.Refusals.{refusal}
+use Rattle.record_fields.specs.Refused.{accepted, orZero}
+use Rattle.record_fields.specs.Meaning.{tableOf}
+use Rattle.record_arrays.specs.Shown.{shownOrder, shownCount}
+use Rattle.calls_show.specs.Calls.{entangled, displacedIn, worstIn, ratioIn}
+use Rattle.calls_turns.specs.Refusals.{freeRefusal, runRefusal}
+use Rattle.calls_turns.specs.Calls.{freedLayouts, ranTo}
+use Rattle.promises.specs.Demand3.{countAfter}
 
--- A line's record: hold `N`.
+-- A case's record: hold `N`.
 abbrev pub recordOf : Case → List ℕ
 recordOf g =
     packed (given 78 (g .size) (g .left-rows) (g .right-rows) (g .links) (g .layouts .left-bytes) (g .layouts .right-bytes))
 
--- What the calls' definitions say of a line's record: the refusals of reading it, of freeing its left and of running it, then as
--- the line shows it.
+-- What the calls' definitions say of a case's record: the refusals of reading it, of freeing its left and of running it; then what a line
+-- shows, which is nothing but the number where it is refused.
 pub record Called : Type 0 where
-  pub refused : ℕ
+  pub read-refused : ℕ
   pub free-refused : ℕ
   pub run-refused : ℕ
   pub shown : Shown
 
+abbrev isRatio : Option Float → Bool
+isRatio none = false
+isRatio (some x) = true
+
 abbrev called : Case → Called
 called g =
     let s = recordOf g in
+    let k = refusal s in
     let e = ranTo s (g .allowance) in
+    let listed : List ℕ → List ℕ = λ xs. cond (accepted k) xs [] in
     record {
-      refused = refusal s;
-      free-refused = freeing s 1;
-      run-refused = running s (g .allowance);
+      read-refused = k;
+      free-refused = freeRefusal s 1;
+      run-refused = runRefusal s (g .allowance);
       shown = record {
-        left-order = shownOrder s left;
-        right-order = shownOrder s right;
-        crossed = shownCount s;
-        left-own = map (ownOf g) (range 1 (pred (g .size)));
+        refused = k;
+        left-order = listed (shownOrder s left);
+        right-order = listed (shownOrder s right);
+        crossed = orZero k (shownCount s);
+        left-own = listed (caseOwn g left);
+        right-own = listed (caseOwn g right);
         displaced = displacedIn (entangled s);
         worst-displaced = worstIn (entangled s);
-        left-freed = freedLayouts s 1 .left-bytes;
-        left-freed-order = Rattle.tanglegram.specs.Table.orderOf (tableOf s) (freedLayouts s 1) left;
-        left-freed-crossed = crossings (tableOf s) (freedLayouts s 1);
-        turns = e .turns;
-        settled = e .settled;
-        last-layouts = e .last;
-        last-crossed = crossings (tableOf s) (e .last);
+        has-ratio = isRatio (ratioIn (entangled s));
+        left-freed = listed (freedLayouts s 1 .left-bytes);
+        left-freed-order = listed (orderOf (tableOf s) (freedLayouts s 1) left);
+        left-freed-crossed = orZero k (crossings (tableOf s) (freedLayouts s 1));
+        turns = orZero k (e .turns);
+        settled = accepted k && e .settled;
+        counts = listed (map (countAfter s) (range 0 (suc (e .turns))));
+        last-layouts = cond (accepted k) (e .last) (bytesOf [] []);
       };
     }
 
-abbrev accepts : Line → Called
-accepts l = record { refused = 0; free-refused = 0; run-refused = 0; shown = l .comes }
-
--- Example 9: rows over three leaves that break the tree rule, on the left and on the right.
-abbrev refusedRows : List ℕ → List ℕ → List ℕ
-refusedRows l r = refusal (recordOf (case 3 l r (1 ∷ 2 ∷ 3 ∷ []) (0 ∷ 0 ∷ []) (0 ∷ 0 ∷ []) 1)) ∷ []
+abbrev told : Line → Called
+told l = record {
+  read-refused = l .shows .refused;
+  free-refused = l .shows .refused;
+  run-refused = l .shows .refused;
+  shown = l .shows;
+}
 
 abbrev pub Examples : Type 0
-Examples =
-    (map (λ l. called (l .from)) examples ≡ map accepts examples) ×
-    (refusedRows (1 ∷ 2 ∷ 1 ∷ 3 ∷ []) (1 ∷ 2 ∷ 4 ∷ 3 ∷ [])
-    ++ refusedRows (1 ∷ 2 ∷ 4 ∷ 3 ∷ []) (1 ∷ 2 ∷ 1 ∷ 3 ∷ [])
-    ++ refusedRows (1 ∷ 5 ∷ 2 ∷ 3 ∷ []) (1 ∷ 2 ∷ 4 ∷ 3 ∷ [])
-    ++ refusedRows (1 ∷ 2 ∷ 4 ∷ 3 ∷ []) (1 ∷ 5 ∷ 2 ∷ 3 ∷ [])
-    ≡ 7 ∷ 8 ∷ 7 ∷ 8 ∷ [])
+Examples = map (λ l. called (l .from)) examples ≡ map told examples

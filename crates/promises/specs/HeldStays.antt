@@ -7,17 +7,17 @@ use mathlib.Core.List.{List}
 use lib.ListN.{length, take}
 use Rattle.tanglegram.specs.Run.{Side}
 use Rattle.tanglegram.specs.Table.{layout}
-use Rattle.format.specs.Fields.{holdOf, sizeOf, leftLayoutAt, parts}
-use Rattle.format.specs.Refusals.{refusal}
-use Rattle.format.specs.Meaning.{tableOf, layoutsOf}
-use Rattle.format.specs.declared.refusal.Refusal.{Refusal}
-use Rattle.table.specs.declared.answers.Freed.{Freed}
-use Rattle.table.specs.declared.answers.Ran.{Ran}
-use Rattle.standing.specs.Sides.{holds}
-use Rattle.standing.specs.Shown.{shownOrder}
-use Rattle.hands.specs.Refusals.{Hand}
-use Rattle.table.specs.Calls.{Frees, Runs}
-use Rattle.hands.specs.Calls.{Hands}
+use Rattle.record_fields.specs.Fields.{holdOf, sizeOf, leftLayoutAt, parts}
+use Rattle.record_fields.specs.Refusals.{refusal}
+use Rattle.record_fields.specs.Meaning.{tableOf, layoutsOf}
+use Rattle.record_fields.specs.declared.refusal.Refusal.{Refusal}
+use Rattle.calls_turns.specs.declared.answers.Freed.{Freed}
+use Rattle.calls_turns.specs.declared.answers.Ran.{Ran}
+use Rattle.record_arrays.specs.Sides.{holds}
+use Rattle.record_arrays.specs.Shown.{shownOrder}
+use Rattle.calls_hands.specs.Refusals.{Hand}
+use Rattle.calls_turns.specs.Calls.{Frees, Runs}
+use Rattle.calls_hands.specs.Calls.{Hands}
 
 -- s′ shows the trees and links of s, and is accepted if s is.
 pub record SameTrees (s s′ : List ℕ) : Type 0 where

@@ -2,17 +2,23 @@
 use Rattle.promises.specs.Demand1.{Demand1}
 use Rattle.promises.specs.Demand2.{Demand2}
 use Rattle.promises.specs.Demand3.{Demand3}
+use Rattle.promises.specs.Entanglement.{Entanglement}
+use Rattle.promises.specs.HandsTwice.{HandsTwice}
 use Rattle.promises.specs.Examples.{Examples}
 use Rattle.promises.specs.Tried.{Tried}
 
 pub record Promises : Type 0 where
-  -- Every call answers or refuses as fixed; a refused call changes nothing; a held side is never moved.
+  -- Every call answers or refuses in one way only; a refused call changes nothing; a held side is never moved.
   pub demand1 : Demand1
-  -- Orders and crossings are the published ones; a freed side crosses least; parts and records are read and packed the same.
+  -- Orders and crossings are the published ones; freeing is least, row by row; what is packed is read out the same, and what is read is
+  -- packed the same.
   pub demand2 : Demand2
   -- A run's turns alternate, never raise the count, are few, and end settled in time; settled is least on either side alone.
   pub demand3 : Demand3
-  -- The examples come out as the paper has them.
+  -- D, W and their ratio; a row that is turned over by hand twice is as it was.
+  pub entanglement : Entanglement
+  pub hands-twice : HandsTwice
+  -- The examples come out as the customer has them.
   pub examples : Examples
   -- Wrong outcomes are excluded.
   pub tried : Tried

@@ -1,15 +1,15 @@
--- Document 01: "Setting the hold puts the letter given into byte 5 and changes nothing else." And of the order of its refusals: a bad
--- letter is 4 whatever the record is, a good one leaves it to the record.
+-- The customer: "Setting the hold puts the letter given into byte 5 and changes nothing else." And of the order of its refusals: a bad
+-- letter is 4 whatever the record is, after a good one the record is tested.
 use Prim.Native.Nat.{ℕ}
 use mathlib.Core.Path.{_≡_}
 use mathlib.Core.Logic.{_≢_}
 use mathlib.Core.Bool.{true, false}
 use mathlib.Core.List.{List}
 use lib.ListN.{length, getD}
-use Rattle.format.specs.declared.refusal.Refusal.{Refusal}
-use Rattle.format.specs.Refusals.{isHold, refusal}
+use Rattle.record_fields.specs.declared.refusal.Refusal.{Refusal}
+use Rattle.record_fields.specs.Refusals.{isHold, refusal}
 use Rattle.tanglegram.specs.Run.{Side}
-use Rattle.standing.specs.Shown.{shownOrder}
+use Rattle.record_arrays.specs.Shown.{shownOrder}
 use Rattle.record.specs.Calls.{SetsHold}
 use Rattle.promises.specs.HeldStays.{SameTrees}
 

@@ -1,23 +1,37 @@
--- Wrong outcomes that the promises exclude: each was tried and met an earlier wording.
+-- Wrong outcomes that the promises exclude: each was tried, and met an earlier wording.
 use Prim.Native.Nat.{ℕ}
 use mathlib.Core.Path.{_≡_}
+use mathlib.Core.Logic.{_≢_}
 use mathlib.Core.List.{List, [], _∷_}
-use Rattle.tanglegram.specs.Examples.{case}
-use Rattle.table.specs.declared.answers.Ran.{Ran}
-use Rattle.promises.specs.Examples.{recordOf}
+use Rattle.tanglegram.specs.Run.{left}
+use Rattle.tanglegram.specs.Examples.{bytesOf, case2, gainsInTurn2, oneLeaf}
+use Rattle.record_fields.specs.Meaning.{relaid}
+use Rattle.calls_turns.specs.declared.answers.Ran.{Ran}
+use Rattle.calls_better.specs.Refusals.{betterRefusal}
+use Rattle.calls_better.specs.Calls.{betterWhich, Address, Betters}
+use Rattle.promises.specs.HeldStays.{Keeps}
+use Rattle.promises.specs.Demand2.{FreeKeeps}
 use Rattle.promises.specs.Demand3.{RunKeeps}
+use Rattle.promises.specs.Examples.{recordOf}
 
--- Example 6: turn 1 gains nothing, turn 2 does.
-abbrev pub gainsInTurn2 : List ℕ
-gainsInTurn2 = recordOf (case 3 (1 ∷ 2 ∷ 4 ∷ 3 ∷ []) (3 ∷ 2 ∷ 1 ∷ 4 ∷ []) (1 ∷ 2 ∷ 3 ∷ []) (0 ∷ 0 ∷ []) (0 ∷ 0 ∷ []) 130818)
-
--- Example 7: one leaf.
-abbrev pub oneLeaf : List ℕ
-oneLeaf = recordOf (case 1 [] [] (1 ∷ []) [] [] 1)
+-- Example 3's record freed on the left, but for row 1, which nothing is gained by: its byte becomes 2, which is read as turned.
+abbrev pub byte2 : List ℕ
+byte2 = relaid (recordOf case2) (bytesOf (2 ∷ 1 ∷ 1 ∷ []) (0 ∷ 0 ∷ 0 ∷ []))
 
 pub record Tried : Type 0 where
-  -- A run that stops at turn 2, which gained, and calls it settled.
+  -- A call that makes a record one that is refused.
+  pub no-record-afterwards : Keeps (recordOf case2) byte2 → ⊥
+  -- Freeing that changes the byte of a row and does not turn it over.
+  pub byte-neither-turned-nor-kept : FreeKeeps (recordOf case2) left byte2 → ⊥
+  -- A run of example 6 that stops at turn 2, which gained, and calls it settled.
   pub settled-after-a-gain : (answer : Ran) (s′ : List ℕ) → answer .turns ≡ 2 → answer .settled ≡ 1 →
-      RunKeeps gainsInTurn2 130818 answer s′ → ⊥
+      RunKeeps (recordOf gainsInTurn2) 130818 answer s′ → ⊥
   -- A run of one leaf that calls one turn settled.
-  pub settled-at-turn-1 : (answer : Ran) (s′ : List ℕ) → answer .settled ≡ 1 → RunKeeps oneLeaf 1 answer s′ → ⊥
+  pub settled-at-turn-1 : (answer : Ran) (s′ : List ℕ) → answer .settled ≡ 1 → RunKeeps (recordOf (oneLeaf 1)) 1 answer s′ → ⊥
+  -- Better of two that answers an empty part of the second order where it is refused;
+  pub refused-part-of-second : (s : List ℕ) (side : ℕ) (first second : List ℕ) (first-at second-at : Address) → first-at ≢ second-at →
+      betterRefusal s side first second ≢ 0 → Betters s side first second first-at second-at [] second-at → ⊥
+  -- that answers any other place than the first order's first one, where that is better or both cross alike: the same entries in the
+  -- second, or later in the first.
+  pub part-elsewhere : (s : List ℕ) (side : ℕ) (first second : List ℕ) (first-at second-at : Address) (part : List ℕ) (part-at : Address) →
+      betterWhich s side first second ≡ 1 → part-at ≢ first-at → Betters s side first second first-at second-at part part-at → ⊥

@@ -1,21 +1,21 @@
--- From what a call found to its statement: a refused call leaves what was lent as found, an accepted one writes it.
+-- From what a call found to its statement: a refused call keeps what was lent as found, an accepted one writes it.
 use Prim.Native.Nat.{ℕ}
 use mathlib.Core.Path.{_≡_, refl, sym, ap, _∙_}
 use mathlib.Core.Logic.{_≢_}
 use mathlib.Core.List.{List}
 use borrow.Author.Tests.{eq-eqb, ne-eqb}
 use lib.ListN.{set}
-use Rattle.format.specs.declared.refusal.Refusal.{Refusal}
+use Rattle.record_fields.specs.declared.refusal.Refusal.{Refusal}
 use Rattle.record.specs.declared.reading.Reading.the-variants.{Accepted, Refused}
-use Rattle.format.specs.Fields.{holdAt, holdOf, sizeOf}
-use Rattle.format.specs.Refusals.{refusal, holding}
-use Rattle.format.specs.Refused.{refused}
+use Rattle.record_fields.specs.Fields.{holdAt, holdOf, sizeOf}
+use Rattle.record_fields.specs.Refusals.{refusal, setHoldRefusal}
+use Rattle.record_fields.specs.Refused.{refused}
 use Rattle.record.specs.Calls.{Checks, readingOf, Reads, SetsHold}
 
 -- ---- two outcomes of which a part equals one and the same thing
 
-pub same : {A : Type 0} {a b x : A} → a ≡ x → b ≡ x → a ≡ b
-same p q = p ∙ sym q
+pub equal-to-one : {A : Type 0} {a b x : A} → a ≡ x → b ≡ x → a ≡ b
+equal-to-one p q = p ∙ sym q
 
 -- ---- reading
 
@@ -33,9 +33,9 @@ module _ (s : List ℕ) {k : ℕ} (e : k ≡ refusal s) where
 
 -- ---- setting the hold
 
-module _ (s : List ℕ) (letter : ℕ) {k : ℕ} (e : k ≡ holding s letter) where
+module _ (s : List ℕ) (letter : ℕ) {k : ℕ} (e : k ≡ setHoldRefusal s letter) where
   pub hold-refused : {answer : Refusal} → k ≢ 0 → answer ≡ refused k → SetsHold s letter answer s
-  hold-refused h r = record { answers = r ∙ ap refused e; leaves = rw (← e, ne-eqb k 0 h) refl }
+  hold-refused h r = record { answers = r ∙ ap refused e; afterwards = rw (← e, ne-eqb k 0 h) refl }
 
   pub hold-set : {answer : Refusal} → k ≡ 0 → answer ≡ refused 0 → SetsHold s letter answer (set s holdAt letter)
-  hold-set z r = record { answers = r ∙ ap refused (sym z ∙ e); leaves = rw (← e, eq-eqb k 0 z) refl }
+  hold-set z r = record { answers = r ∙ ap refused (sym z ∙ e); afterwards = rw (← e, eq-eqb k 0 z) refl }

@@ -2,26 +2,26 @@
 ghost use mathlib.Core.Path.{_≡_};
 ghost use Prim.Native.Nat.{_≤_};
 ghost use lib.ListN.{length};
-ghost use Rattle.format.specs.Refusals.{heading, isHold, isMark, noSize};
-use format::copying::number;
-use format::fields::BOTH;
-use format::fields::LEFT;
-use format::fields::LEFT_ROWS_AT;
-use format::fields::MARK_TGP;
-use format::fields::MOST_LEAVES;
-use format::fields::NEITHER;
-use format::fields::RIGHT;
-use format::fields::VERSION_1;
-use format::fields::VERSION_AT;
-use format::fields::hold_of;
-use format::fields::length_of;
-use format::fields::size_of;
-use format::refusal::HOLD;
-use format::refusal::LENGTH;
-use format::refusal::MARK;
-use format::refusal::SHORT;
-use format::refusal::SIZE;
-use format::refusal::VERSION;
+ghost use Rattle.record_fields.specs.Refusals.{headingRefusal, isHold, isMark, noSize};
+use record_fields::copying::number;
+use record_fields::fields::BOTH;
+use record_fields::fields::LEFT;
+use record_fields::fields::LEFT_ROWS_AT;
+use record_fields::fields::MARK_TGP;
+use record_fields::fields::MOST_LEAVES;
+use record_fields::fields::NEITHER;
+use record_fields::fields::RIGHT;
+use record_fields::fields::VERSION_1;
+use record_fields::fields::VERSION_AT;
+use record_fields::fields::hold_of;
+use record_fields::fields::length_of;
+use record_fields::fields::size_of;
+use record_fields::refusal::HOLD;
+use record_fields::refusal::LENGTH;
+use record_fields::refusal::MARK;
+use record_fields::refusal::SHORT;
+use record_fields::refusal::SIZE;
+use record_fields::refusal::VERSION;
 
 // Whether x is one of the four letters.
 pub fn is_hold(x: u8) -> bool
@@ -59,7 +59,7 @@ pub fn no_size(n: u16) -> bool
 
 // 1 to 6 for the first eight bytes and the length, or 0.
 pub fn heading_number(s: &[u8]) -> u16
-    ensures { λ r. ⌜ r ≡ heading (now (s .entry)) ⌝ }
+    ensures { λ r. ⌜ r ≡ headingRefusal (now (s .entry)) ⌝ }
 {
     if s.len() < LEFT_ROWS_AT {
         return SHORT;

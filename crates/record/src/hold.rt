@@ -1,17 +1,17 @@
 // Setting the hold: one letter in its place, and nothing else.
 ghost use Rattle.record.specs.Calls.{SetsHold};
 ghost use mathlib.Core.Path.{_≡_};
-ghost use Rattle.format.specs.Refusals.{holding};
+ghost use Rattle.record_fields.specs.Refusals.{setHoldRefusal};
 use crate::heading::is_hold;
 use crate::reading::refusal_number;
-use format::fields::HOLD_AT;
-use format::refusal::HOLD;
-use format::refusal::Refusal;
-use format::refusal::refused;
+use record_fields::fields::HOLD_AT;
+use record_fields::refusal::HOLD;
+use record_fields::refusal::Refusal;
+use record_fields::refusal::refused;
 
 // Setting the hold's refusal, or 0: the letter's comes before the record's.
 fn holding_number(s: &[u8], letter: u8) -> u16
-    ensures { λ r. ⌜ r ≡ holding (now (s .entry)) letter ⌝ }
+    ensures { λ r. ⌜ r ≡ setHoldRefusal (now (s .entry)) letter ⌝ }
 {
     if !is_hold(letter) {
         return HOLD;

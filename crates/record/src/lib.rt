@@ -3,8 +3,8 @@ pub mod heading;
 mod hold;
 pub mod reading;
 
-pub use format::fields::size_of;
 pub use hold::set_hold;
 pub use reading::check;
 pub use reading::read;
 pub use reading::refusal_number;
+pub use record_fields::fields::size_of;

@@ -1,13 +1,13 @@
 // Reading a record: its refusal, or what its heading says.
 ghost use mathlib.Core.Path.{_≡_};
 ghost use Rattle.record.specs.Calls.{Checks, Reads};
-ghost use Rattle.format.specs.Refusals.{refusal};
+ghost use Rattle.record_fields.specs.Refusals.{refusal};
 use crate::heading::heading_number;
-use contents::contents_number;
-use format::fields::hold_of;
-use format::fields::size_of;
-use format::refusal::Refusal;
-use format::refusal::refused;
+use record_contents::contents_number;
+use record_fields::fields::hold_of;
+use record_fields::fields::size_of;
+use record_fields::refusal::Refusal;
+use record_fields::refusal::refused;
 
 // What an accepted record's heading says.
 pub struct Header {

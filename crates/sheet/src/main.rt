@@ -1,11 +1,11 @@
 // The sheet of one record: reads it from standard input, shows it as it stands, runs it with the largest allowance and
 // shows it afterwards. A bad record prints only `REFUSED` and its number, a held one its first five lines and
 // `REFUSED 11`.
-use format::fields::MOST_TURNS;
+use calls_show::answers::Entangled;
+use calls_turns::answers::Ran;
 use record::reading::Header;
 use record::reading::Reading;
-use table::answers::Ran;
-use views::answers::Entangled;
+use record_fields::fields::MOST_TURNS;
 
 // `REFUSED` and a refusal's number.
 fn refused(number: u16) {
@@ -40,9 +40,9 @@ fn orders(s: &[u8], n: u16) {
         return;
     }
     let mut order = [0u16; 512];
-    views::order(s, 1, &mut order);
+    calls_show::order(s, 1, &mut order);
     entries(b'L', &order[..most]);
-    views::order(s, 2, &mut order);
+    calls_show::order(s, 2, &mut order);
     entries(b'R', &order[..most]);
 }
 
@@ -56,11 +56,11 @@ fn displaced(d: u32, w: u32) {
 
 // The count, D and W. A single leaf has no ratio, and D and W are 0.
 fn measures(s: &[u8]) {
-    let counted = views::count(s);
+    let counted = calls_show::count(s);
     printing::text(b"X");
     printing::next(counted.count);
     printing::end();
-    let entangled = views::entanglement(s);
+    let entangled = calls_show::entanglement(s);
     let Entangled::Ratio(d, w, _ratio) = entangled else {
         return displaced(0, 0);
     };
@@ -100,7 +100,7 @@ fn sheet(s: &mut [u8]) {
     heading(header);
     orders(s, n);
     measures(s);
-    let ran = table::run(s, MOST_TURNS);
+    let ran = calls_turns::run(s, MOST_TURNS);
     let refusal = ran.refusal;
     if refusal.number != 0 {
         return refused(refusal.number);

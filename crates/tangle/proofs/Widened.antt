@@ -7,26 +7,26 @@ use mathlib.Core.List.{List}
 use native.Mathlib.Omega.{arith}
 use borrow.Author.Tests.{ne-eqb, lt-ltb, ltb-true, ltb-false}
 use lib.Dec.{ltb}
-use Rattle.format.specs.declared.refusal.Refusal.{Refusal}
-use Rattle.format.specs.Fields.{Parts, given, packed}
-use Rattle.format.specs.Refusals.{isHold, noSize, holding}
+use Rattle.record_fields.specs.declared.refusal.Refusal.{Refusal}
+use Rattle.record_fields.specs.Fields.{Parts, given, packed}
+use Rattle.record_fields.specs.Refusals.{isHold, noSize, setHoldRefusal}
 use Rattle.record.specs.Calls.{SetsHold}
-use Rattle.format.specs.Refused.{refused}
-use Rattle.format.proofs.Refused.{lent-refused}
-use Rattle.packing.specs.Refusals.{shape, packing}
-use Rattle.packing.specs.Calls.{Packs}
-use Rattle.standing.specs.Sides.{isSide}
-use Rattle.views.specs.Calls.{Orders}
-use Rattle.views.proofs.Outcomes.{ordering-13}
-use Rattle.table.specs.declared.answers.Freed.{Freed}
-use Rattle.table.specs.Calls.{Frees}
-use Rattle.table.proofs.Turns.{freeing-13}
-use Rattle.proposals.specs.declared.answers.Compared.{Compared}
-use Rattle.proposals.specs.Calls.{betterWhich, Compares, BetterChecks}
-use Rattle.proposals.proofs.Compared.{comparing-13}
+use Rattle.record_fields.specs.Refused.{refused}
+use Rattle.record_fields.proofs.Refused.{lent-refused}
+use Rattle.record_packing.specs.Refusals.{shapeRefusal, packRefusal}
+use Rattle.record_packing.specs.Calls.{Packs}
+use Rattle.record_arrays.specs.Sides.{isSide}
+use Rattle.calls_show.specs.Calls.{Orders}
+use Rattle.calls_show.proofs.Outcomes.{ordering-13}
+use Rattle.calls_turns.specs.declared.answers.Freed.{Freed}
+use Rattle.calls_turns.specs.Calls.{Frees}
+use Rattle.calls_turns.proofs.Turns.{freeing-13}
+use Rattle.calls_better.specs.declared.answers.Compared.{Compared}
+use Rattle.calls_better.specs.Calls.{betterWhich, Compares, BetterChecks}
+use Rattle.calls_better.proofs.Compared.{comparing-13}
 use Rattle.tangle.specs.Narrowed.{Narrowed}
 
--- What holds of the narrow number holds of the wide one, if beyond the limit it follows from what holds of 0.
+-- What is true of the narrow number is true of the wide one, if beyond the limit it follows from what is true of 0.
 pub widened : {limit x y : ℕ} (P : ℕ → Type 0) → Narrowed limit x y → (limit ≤ x → P 0 → P x) → P y → P x
 widened {limit} {x} P w far p = go (ltb x limit) refl
   where
@@ -52,13 +52,13 @@ module _ {side k : ℕ} (w : Narrowed 65536 side k) where
   order-wide {s} {out} {out′} {a} = by-side (λ x. Orders s x out a out′) (λ no p.
       let z = ordering-13 s 0 out zero-no-side in
       let e = ordering-13 s side out no in
-      record { answers = rw (← e) (rw (← z) at (p .answers)); leaves = rw (← e) (rw (← z) at (p .leaves)) })
+      record { answers = rw (← e) (rw (← z) at (p .answers)); afterwards = rw (← e) (rw (← z) at (p .afterwards)) })
 
   pub free-wide : {s s′ : List ℕ} {a : Freed} → Frees s k a s′ → Frees s side a s′
   free-wide {s} {s′} {a} = by-side (λ x. Frees s x a s′) (λ no p.
       let z = freeing-13 s 0 zero-no-side in
       let e = freeing-13 s side no in
-      record { answers = rw (← e) (rw (← z) at (p .answers)); leaves = rw (← e) (rw (← z) at (p .leaves)) })
+      record { answers = rw (← e) (rw (← z) at (p .answers)); afterwards = rw (← e) (rw (← z) at (p .afterwards)) })
 
   pub compare-wide : {s first second : List ℕ} {a : Compared} → Compares s k first second a → Compares s side first second a
   unfolding betterWhich
@@ -90,15 +90,15 @@ zero-no-letter : isHold 0 ≡ false
 unfolding isHold
 zero-no-letter = refl
 
-holding-4 : (s : List ℕ) (letter : ℕ) → isHold letter ≡ false → 4 ≡ holding s letter
-unfolding holding
+holding-4 : (s : List ℕ) (letter : ℕ) → isHold letter ≡ false → 4 ≡ setHoldRefusal s letter
+unfolding setHoldRefusal
 holding-4 s letter h = rw h refl
 
 pub hold-wide : {s s′ : List ℕ} {letter k : ℕ} {a : Refusal} → Narrowed 256 letter k → SetsHold s k a s′ → SetsHold s letter a s′
 hold-wide {s} {s′} {letter} {k} {a} w = widened (λ x. SetsHold s x a s′) w (λ h p.
     let z = holding-4 s 0 zero-no-letter in
     let e = holding-4 s letter (no-letter letter h) in
-    record { answers = rw (← e) (rw (← z) at (p .answers)); leaves = rw (← e) (rw (← z) at (p .leaves)) })
+    record { answers = rw (← e) (rw (← z) at (p .answers)); afterwards = rw (← e) (rw (← z) at (p .afterwards)) })
 
 -- ---- packing: its letter and n
 
@@ -111,39 +111,39 @@ unfolding noSize
 zero-no-size = refl
 
 -- parts that are refused alike
-packs-alike : {P Q : Parts} {out out′ : List ℕ} {a : Refusal} {c : ℕ} → c ≢ 0 → c ≡ packing P out → c ≡ packing Q out →
+packs-alike : {P Q : Parts} {out out′ : List ℕ} {a : Refusal} {c : ℕ} → c ≢ 0 → c ≡ packRefusal P out → c ≡ packRefusal Q out →
     Packs P out a out′ → Packs Q out a out′
 packs-alike {P} {Q} {out} {c = c} some z e p = record {
   answers = p .answers ∙ ap refused (sym z ∙ e);
-  leaves =
-      (rw (← z) at (p .leaves)) ∙ sym (lent-refused c (packed P) out some) ∙ rw (← e) (lent-refused c (packed Q) out some);
+  afterwards =
+      (rw (← z) at (p .afterwards)) ∙ sym (lent-refused c (packed P) out some) ∙ rw (← e) (lent-refused c (packed Q) out some);
 }
 
 module _ (left right links left-layout right-layout out : List ℕ) where
-  abbrev parts : ℕ → ℕ → Parts
-  parts hold n = given hold n left right links left-layout right-layout
+  abbrev partsWith : ℕ → ℕ → Parts
+  partsWith hold n = given hold n left right links left-layout right-layout
 
-  pack-4 : (hold n : ℕ) → isHold hold ≡ false → 4 ≡ packing (parts hold n) out
-  unfolding packing shape
+  pack-4 : (hold n : ℕ) → isHold hold ≡ false → 4 ≡ packRefusal (partsWith hold n) out
+  unfolding packRefusal shapeRefusal
   pack-4 hold n h = rw h refl
 
-  pack-5 : (hold n : ℕ) → isHold hold ≡ true → noSize n ≡ true → 5 ≡ packing (parts hold n) out
-  unfolding packing shape
+  pack-5 : (hold n : ℕ) → isHold hold ≡ true → noSize n ≡ true → 5 ≡ packRefusal (partsWith hold n) out
+  unfolding packRefusal shapeRefusal
   pack-5 hold n h m = rw (h, m) refl
 
   module _ {out′ : List ℕ} {a : Refusal} where
-    letter-wide : {hold n k : ℕ} → Narrowed 256 hold k → Packs (parts k n) out a out′ → Packs (parts hold n) out a out′
+    letter-wide : {hold n k : ℕ} → Narrowed 256 hold k → Packs (partsWith k n) out a out′ → Packs (partsWith hold n) out a out′
     letter-wide {hold} {n} w =
-        widened (λ x. Packs (parts x n) out a out′) w
+        widened (λ x. Packs (partsWith x n) out a out′) w
         (λ h. packs-alike (λ e. omega arith) (pack-4 0 n zero-no-letter) (pack-4 hold n (no-letter hold h)))
 
-    size-wide : {hold n k : ℕ} → Narrowed 65536 n k → Packs (parts hold k) out a out′ → Packs (parts hold n) out a out′
-    size-wide {hold} {n} w = widened (λ x. Packs (parts hold x) out a out′) w (λ h. go h (isHold hold) refl)
+    size-wide : {hold n k : ℕ} → Narrowed 65536 n k → Packs (partsWith hold k) out a out′ → Packs (partsWith hold n) out a out′
+    size-wide {hold} {n} w = widened (λ x. Packs (partsWith hold x) out a out′) w (λ h. go h (isHold hold) refl)
       where
-        go : 65536 ≤ n → (b : Bool) → isHold hold ≡ b → Packs (parts hold 0) out a out′ → Packs (parts hold n) out a out′
+        go : 65536 ≤ n → (b : Bool) → isHold hold ≡ b → Packs (partsWith hold 0) out a out′ → Packs (partsWith hold n) out a out′
         go h true b = packs-alike (λ e. omega arith) (pack-5 hold 0 b zero-no-size) (pack-5 hold n b (no-size n h))
         go h false b = packs-alike (λ e. omega arith) (pack-4 hold 0 b) (pack-4 hold n b)
 
     pub pack-wide : {hold letter n size : ℕ} → Narrowed 256 hold letter → Narrowed 65536 n size →
-        Packs (parts letter size) out a out′ → Packs (parts hold n) out a out′
+        Packs (partsWith letter size) out a out′ → Packs (partsWith hold n) out a out′
     pack-wide u v p = letter-wide u (size-wide v p)

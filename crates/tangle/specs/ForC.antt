@@ -1,28 +1,28 @@
--- What the calls for C answer and leave, for every input: what the call itself answers, field by field as the number that C has, and
--- what it leaves. Sides, letters and n are the numbers that C hands over, of 32 bits.
+-- What the calls for C answer, and what was lent to them is afterwards, for every input: as the call itself, its answer field by field as
+-- the number that C has. Sides, letters and n are the numbers that C hands over, of 32 bits.
 use Prim.Native.Nat.{ℕ}
 use mathlib.Core.Path.{_≡_}
 use mathlib.Core.Bool.{false}
 use mathlib.Core.List.{List}
 use lib.IntN.{pos}
 use lib.Ieee.{fin}
-use Rattle.format.specs.declared.refusal.Refusal.{Refusal}
-use Rattle.format.specs.Fields.{Parts}
+use Rattle.record_fields.specs.declared.refusal.Refusal.{Refusal}
+use Rattle.record_fields.specs.Fields.{Parts}
 use Rattle.record.specs.Calls.{Checks, SetsHold}
-use Rattle.unpacking.specs.declared.unpacking.Unpacked.{Unpacked}
-use Rattle.unpacking.specs.Calls.{Unpacks}
-use Rattle.packing.specs.Calls.{Packs}
-use Rattle.views.specs.declared.answers.Counted.{Counted}
-use Rattle.views.specs.declared.answers.Entangled.{Entangled}
-use Rattle.views.specs.declared.answers.Entangled.the-variants.{Ratio, NoRatio, Refused}
-use Rattle.views.specs.Calls.{Orders, Counts, Entangles}
-use Rattle.table.specs.declared.answers.Freed.{Freed}
-use Rattle.table.specs.declared.answers.Ran.{Ran}
-use Rattle.table.specs.Calls.{Frees, Runs}
-use Rattle.hands.specs.Refusals.{Hand}
-use Rattle.hands.specs.Calls.{Hands}
-use Rattle.proposals.specs.declared.answers.Compared.{Compared}
-use Rattle.proposals.specs.Calls.{Compares, BetterChecks}
+use Rattle.record_unpacking.specs.declared.unpacking.Unpacked.{Unpacked}
+use Rattle.record_unpacking.specs.Calls.{Unpacks}
+use Rattle.record_packing.specs.Calls.{Packs}
+use Rattle.calls_show.specs.declared.answers.Counted.{Counted}
+use Rattle.calls_show.specs.declared.answers.Entangled.{Entangled}
+use Rattle.calls_show.specs.declared.answers.Entangled.the-variants.{Ratio, NoRatio, Refused}
+use Rattle.calls_show.specs.Calls.{Orders, Counts, Entangles}
+use Rattle.calls_turns.specs.declared.answers.Freed.{Freed}
+use Rattle.calls_turns.specs.declared.answers.Ran.{Ran}
+use Rattle.calls_turns.specs.Calls.{Frees, Runs}
+use Rattle.calls_hands.specs.Refusals.{Hand}
+use Rattle.calls_hands.specs.Calls.{Hands}
+use Rattle.calls_better.specs.declared.answers.Compared.{Compared}
+use Rattle.calls_better.specs.Calls.{Compares, BetterChecks}
 use Rattle.tangle.specs.declared.answers.TangleRefusal.{TangleRefusal}
 use Rattle.tangle.specs.declared.answers.TangleCount.{TangleCount}
 use Rattle.tangle.specs.declared.answers.TangleEntanglement.{TangleEntanglement}

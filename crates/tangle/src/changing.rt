@@ -1,14 +1,14 @@
 // The calls for C that change the lent record, and nothing else: hold, free, run and hand lists. A refused call
 // changes no byte.
 ghost use mathlib.Core.List.{map};
-ghost use Rattle.hand_entries.specs.Entries.{handIn};
+ghost use Rattle.calls_hand_entries.specs.Entries.{handIn};
 ghost use Rattle.tangle.specs.ForC.{FreesForC, HandsForC, RunsForC, SetsHoldForC};
 use crate::answers::TangleFree;
 use crate::answers::TangleRefusal;
 use crate::answers::TangleRun;
 use crate::narrowing::in_8_bits;
 use crate::narrowing::in_16_bits;
-use hand_entries::hand_entries::HandEntry;
+use calls_hand_entries::hand_entries::HandEntry;
 
 // Sets the hold of any bytes: the letter in byte 5; or the refusal, and no byte.
 #[no_mangle]
@@ -26,7 +26,7 @@ pub extern "C" fn tangle_hold(s: &mut [u8], letter: u32) -> TangleRefusal
 pub extern "C" fn tangle_free(s: &mut [u8], side: u32) -> TangleFree
     ensures { λ r. ⌜ FreesForC (now (s .entry)) side r (now (s .exit)) ⌝ }
 {
-    let freed = table::free(s, in_16_bits(side));
+    let freed = calls_turns::free(s, in_16_bits(side));
     TangleFree {
         refusal: freed.refusal.number as u32,
         before: freed.before,
@@ -39,7 +39,7 @@ pub extern "C" fn tangle_free(s: &mut [u8], side: u32) -> TangleFree
 pub extern "C" fn tangle_run(s: &mut [u8], allowance: u32) -> TangleRun
     ensures { λ r. ⌜ RunsForC (now (s .entry)) allowance r (now (s .exit)) ⌝ }
 {
-    let ran = table::run(s, allowance);
+    let ran = calls_turns::run(s, allowance);
     TangleRun {
         refusal: ran.refusal.number as u32,
         first: ran.first,
@@ -55,7 +55,7 @@ pub extern "C" fn tangle_run(s: &mut [u8], allowance: u32) -> TangleRun
 pub extern "C" fn tangle_hands(s: &mut [u8], list: &[HandEntry]) -> TangleRefusal
     ensures { λ r. ⌜ HandsForC (now (s .entry)) (map handIn (now (list .entry))) r (now (s .exit)) ⌝ }
 {
-    let refusal = hand_entries::hands_named(s, list);
+    let refusal = calls_hand_entries::hands_named(s, list);
     TangleRefusal {
         refusal: refusal.number as u32,
     }

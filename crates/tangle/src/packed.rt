@@ -1,6 +1,6 @@
 // The calls for C between a record and its parts, five lists with the hold and n: pack and unpack. A refused call
 // writes to no buffer.
-ghost use Rattle.format.specs.Fields.{given};
+ghost use Rattle.record_fields.specs.Fields.{given};
 ghost use Rattle.tangle.specs.ForC.{PacksForC, UnpacksForC};
 use crate::answers::TangleRefusal;
 use crate::answers::TangleUnpack;
@@ -34,7 +34,7 @@ pub extern "C" fn tangle_pack(
         (now (out .exit))
         ⌝ }
 {
-    let refusal = packing::pack(
+    let refusal = record_packing::pack(
         in_8_bits(hold),
         in_16_bits(n),
         left,
@@ -76,7 +76,7 @@ pub extern "C" fn tangle_unpack(
         (now (rightlayout .exit))
         ⌝ }
 {
-    let unpacked = unpacking::unpack(s, left, right, links, leftlayout, rightlayout);
+    let unpacked = record_unpacking::unpack(s, left, right, links, leftlayout, rightlayout);
     TangleUnpack {
         refusal: unpacked.refusal.number as u32,
         hold: unpacked.hold as u32,

@@ -10,7 +10,7 @@ use crate::narrowing::in_16_bits;
 pub extern "C" fn tangle_better(s: &[u8], side: u32, first: &[u16], second: &[u16]) -> TangleBetter
     ensures { λ r. ⌜ ComparesForC (now (s .entry)) side (now (first .entry)) (now (second .entry)) r ⌝ }
 {
-    let compared = proposals::compare(s, in_16_bits(side), first, second);
+    let compared = calls_better::compare(s, in_16_bits(side), first, second);
     TangleBetter {
         refusal: compared.refusal.number as u32,
         which: compared.which as u32,
@@ -28,7 +28,7 @@ pub extern "C" fn tangle_better_check(
 ) -> TangleRefusal
     ensures { λ r. ⌜ BetterChecksForC (now (s .entry)) side (now (first .entry)) (now (second .entry)) r ⌝ }
 {
-    let refusal = proposals::better_check(s, in_16_bits(side), first, second);
+    let refusal = calls_better::better_check(s, in_16_bits(side), first, second);
     TangleRefusal {
         refusal: refusal.number as u32,
     }

@@ -6,7 +6,7 @@ use crate::answers::TangleCount;
 use crate::answers::TangleEntanglement;
 use crate::answers::TangleRefusal;
 use crate::narrowing::in_16_bits;
-use views::answers::Entangled;
+use calls_show::answers::Entangled;
 
 // Whether any bytes are a record: 0, or the refusal.
 #[no_mangle]
@@ -24,7 +24,7 @@ pub extern "C" fn tangle_check(s: &[u8]) -> TangleRefusal
 pub extern "C" fn tangle_order(s: &[u8], side: u32, out: &mut [u16]) -> TangleRefusal
     ensures { λ r. ⌜ OrdersForC (now (s .entry)) side (now (out .entry)) r (now (out .exit)) ⌝ }
 {
-    let refusal = views::order(s, in_16_bits(side), out);
+    let refusal = calls_show::order(s, in_16_bits(side), out);
     TangleRefusal {
         refusal: refusal.number as u32,
     }
@@ -35,7 +35,7 @@ pub extern "C" fn tangle_order(s: &[u8], side: u32, out: &mut [u16]) -> TangleRe
 pub extern "C" fn tangle_count(s: &[u8]) -> TangleCount
     ensures { λ r. ⌜ CountsForC (now (s .entry)) r ⌝ }
 {
-    let counted = views::count(s);
+    let counted = calls_show::count(s);
     TangleCount {
         refusal: counted.refusal.number as u32,
         count: counted.count,
@@ -47,7 +47,7 @@ pub extern "C" fn tangle_count(s: &[u8]) -> TangleCount
 pub extern "C" fn tangle_pairs(s: &[u8]) -> TangleCount
     ensures { λ r. ⌜ CountsForC (now (s .entry)) r ⌝ }
 {
-    let counted = views::pairs(s);
+    let counted = calls_show::pairs(s);
     TangleCount {
         refusal: counted.refusal.number as u32,
         count: counted.count,
@@ -59,7 +59,7 @@ pub extern "C" fn tangle_pairs(s: &[u8]) -> TangleCount
 pub extern "C" fn tangle_entanglement(s: &[u8]) -> TangleEntanglement
     ensures { λ r. ⌜ EntanglesForC (now (s .entry)) r ⌝ }
 {
-    let entangled = views::entanglement(s);
+    let entangled = calls_show::entanglement(s);
     match entangled {
         Entangled::Ratio(d, w, ratio) => TangleEntanglement {
             refusal: 0,

@@ -15,4 +15,5 @@ pub mod Alternating
 pub mod Entanglement
 pub mod Turning
 pub mod Table
+pub mod OwnPairs
 pub mod Examples

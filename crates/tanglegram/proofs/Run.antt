@@ -1,43 +1,20 @@
 -- Runs, for any two freeings that never raise the cost and keep the state where they do not lower it: when a run ends, how many
--- turns it takes, what it leaves, and what settled means. Demand 3 is this, read for a table.
+-- turns it takes, its last layouts, and what settled means. Demand 3 is this, read for a table.
 use Prim.Native.Nat.{ℕ, zero, suc, pred, _+_, _≤_, _<_}
 use mathlib.Core.Path.{_≡_, refl, ap}
 use mathlib.Core.Bool.{Bool, true, false, cond, true≢false, false≢true}
 use native.Mathlib.Omega.{arith}
 use borrow.Author.Tests.{ltb-true, ltb-false, lt-ltb, le-ltb}
 use lib.Dec.{ltb}
-use Rattle.tanglegram.specs.Run.{Side, left, right, other, End, more, go, run, after}
+use Rattle.tanglegram.specs.Run.{Side, left, right, other, End, more, go, run, after, Ends}
 
 -- What is asked of a freeing: it keeps a state good, never raises the cost, changes nothing where it does not lower it, and
--- leaves what is least for its side.
+-- makes its side least.
 pub record Freeing {S : Type 0} (Good : S → Type 0) (cost : S → ℕ) (Least : Side → S → Type 0) (free : Side → S → S) : Type 0 where
   pub stays : (side : Side) (s : S) → Good s → Good (free side s)
   pub falls : (side : Side) (s : S) → Good s → cost (free side s) ≤ cost s
   pub keeps : (side : Side) (s : S) → Good s → cost s ≤ cost (free side s) → free side s ≡ s
   pub least : (side : Side) (s : S) → Good s → Least side (free side s)
-
--- What turns from s end with, `side` first, at most k of them, of which the first `spared` do not end it whatever they gain.
-pub record Ends {S : Type 0} (cost : S → ℕ) (Least : Side → S → Type 0) (free : Side → S → S) (spared k : ℕ) (side : Side) (s : S)
-    (e : End S) : Type 0 where
-  -- the last state is the state after exactly the reported number of freeings
-  pub is-after : e .last ≡ after free (e .turns) side s
-  -- turns taken are at most the first count less the last, plus 1 and those spared
-  pub few : e .turns + cost (e .last) ≤ cost s + suc spared
-  pub allowed : e .turns ≤ k
-  -- a turn that is spared does not end it
-  pub enough : spared < k → spared < e .turns
-  -- nor does one that gains
-  pub goes-on : (j : ℕ) → spared ≤ j → suc j < e .turns → cost (after free (suc j) side s) < cost (after free j side s)
-  -- settled: the last turn gained nothing, and neither side has a better choice
-  pub stops : e .settled ≡ true →
-      (j : ℕ) × (e .turns ≡ suc j) × (spared ≤ j) × (cost (after free (suc j) side s) ≡ cost (after free j side s))
-  pub both : e .settled ≡ true → Least left (e .last) × Least right (e .last)
-  -- unsettled: the allowance is used up, and every turn not spared gained
-  pub used-up : e .settled ≡ false → e .turns ≡ k
-  pub gained : e .settled ≡ false →
-      (j : ℕ) → spared ≤ j → j < e .turns → cost (after free (suc j) side s) < cost (after free j side s)
-  -- so that an allowance of the first count and a little more settles it
-  pub in-time : cost s + suc spared ≤ k → e .settled ≡ true
 
 module _ {S : Type 0} (Good : S → Type 0) (cost : S → ℕ) (Least : Side → S → Type 0) (free : Side → S → S)
     (F : Freeing Good cost Least free) where

@@ -1,5 +1,5 @@
 -- Demands 2 and 3 for tables: what freeing a side and what a run do to a table's layouts and its count. Proved for every table
--- that is fair, and document 01's tables are: two trees by the tree rule over n leaves, and links one to one.
+-- that is fair, and those of records are: two trees by the tree rule over n leaves, and links one to one.
 use Prim.Native.Nat.{ℕ, pred, _+_, _*_, _≤_, _<_}
 use mathlib.Core.Path.{_≡_, refl, ap, _∙_}
 use mathlib.Core.Logic.{_↔_}
@@ -11,25 +11,14 @@ use Rattle.tanglegram.specs.Tree.{Tree, leaves, rows, EachRow, tree, Rul
 use Rattle.tanglegram.specs.Order.{byte, flip, mayChange, Choice}
 use Rattle.tanglegram.specs.Crossings.{pairs, back, end, between, own, ownAt, cost}
 use Rattle.tanglegram.specs.Freeing.{freed}
-use Rattle.tanglegram.specs.Run.{Side, left, right, other, run}
-use Rattle.tanglegram.specs.Table.{Table, Layouts, pick, layout, put, linked, orderOf, crossings, seen, free, Least}
+use Rattle.tanglegram.specs.Run.{Side, left, right, other, run, Ends}
+use Rattle.tanglegram.specs.Table.{Table, Layouts, pick, layout, put, linked, orderOf, crossings, seen, free, Least, Fair, Fits}
 use Rattle.tanglegram.proofs.Tree.{leaves-once, rows-once}
 use Rattle.tanglegram.proofs.Order.{order-perm}
 use Rattle.tanglegram.proofs.Crossings.{count-left, count-right, pairs-cost, ends-apart, starts-apart}
 use Rattle.tanglegram.proofs.Freeing.{every-layout, length-freed, freed-exactly, freed-least, freed-same, freed-bytes}
 use Rattle.tanglegram.proofs.Turning.{leaf-product}
-use Rattle.tanglegram.proofs.Run.{Freeing, Ends, run-ends}
-
--- What is asked of a table: a side's rows are 1 to their number, each once, and the count is what either side sees.
-pub record Fair (T : Table) : Type 0 where
-  pub row-count : Side → ℕ
-  pub numbered : (side : Side) → List·Permᴰ (rows (T .tree side)) (range 1 (row-count side))
-  pub from-left : (σ τ : List ℕ) → List·Permᴰ σ (leaves (T .tree left)) → T .count σ τ ≡ pairs (T .weight left τ) σ
-  pub from-right : (σ τ : List ℕ) → List·Permᴰ τ (leaves (T .tree right)) → T .count σ τ ≡ pairs (T .weight right σ) τ
-
--- And of layouts: a byte for each row.
-abbrev pub Fits : {T : Table} → Fair T → Layouts → Type 0
-Fits F s = (side : Side) → length (layout s side) ≡ F .row-count side
+use Rattle.tanglegram.proofs.Run.{Freeing, run-ends}
 
 -- ---- putting a side's layout
 
@@ -110,7 +99,7 @@ module _ (T : Table) (F : Fair T) where
   free-small right s fits small right =
       freed-bytes (seen T s right) (T .tree right) (F .row-count right) (F .numbered right) (s .right-bytes) (fits right) (small right)
 
-  free-settles : (side : Side) (s : Layouts) → Fits F s → Least T side (free T side s)
+  pub free-settles : (side : Side) (s : Layouts) → Fits F s → Least T side (free T side s)
   free-settles left s fits any h = free-least left s fits any (every-layout (s .left-bytes) any)
   free-settles right s fits any h = free-least right s fits any (every-layout (s .right-bytes) any)
 
@@ -118,10 +107,10 @@ module _ (T : Table) (F : Fair T) where
   frees = record { stays = free-fits; falls = free-falls; keeps = free-same; least = free-settles }
 
   -- ---- a run, under every allowance
-  pub run-table : (k : ℕ) (s : Layouts) → Fits F s → Ends (crossings T) (Least T) (free T) 1 k left s (run (crossings T) (free T) k s)
-  run-table = run-ends (Fits F) (crossings T) (Least T) (free T) frees
+  pub table-run : (k : ℕ) (s : Layouts) → Fits F s → Ends (crossings T) (Least T) (free T) 1 k left s (run (crossings T) (free T) k s)
+  table-run = run-ends (Fits F) (crossings T) (Least T) (free T) frees
 
--- ---- document 01's tables are fair
+-- ---- the tables of records are fair
 
 pub linked-fair : (n : ℕ) (t u : Tree) (ps : List ℕ) → List·Permᴰ (leaves t) (range 1 n) → List·Permᴰ (leaves u) (range 1 n) →
     List·Permᴰ (rows t) (range 1 (pred n)) → List·Permᴰ (rows u) (range 1 (pred n)) → List·Permᴰ ps (range 1 n) → Fair (linked n t u ps)

@@ -1,16 +1,17 @@
--- The table of examples: document 01's examples 1 to 8 and 10, and the drawing-board case that tells p from its inverse, each with
--- all that the definitions should say of it. (Example 9 is about refusals and joins with the record.)
-use Prim.Native.Nat.{ℕ, pred, _+_, _*_}
-use mathlib.Core.Bool.{Bool, true, false}
+-- The list of examples: the customer's examples 1 to 10, a line for each case of them, and the case that tells p from its inverse. A line
+-- has the case and all that should be said of it, field by field; of a case that is refused, the number and nothing else.
+use Prim.Native.Nat.{ℕ, suc, pred, _+_, _*_}
+use mathlib.Core.Bool.{Bool, true, false, not}
 use mathlib.Core.List.{List, [], _∷_, map}
+use lib.Dec.{eqb}
 use lib.ListN.{getD}
 use Rattle.tanglegram.specs.Lists.{place, range}
 use Rattle.tanglegram.specs.Tree.{Tree, leaves, deep, object, tree}
 use Rattle.tanglegram.specs.Order.{order, write}
-use Rattle.tanglegram.specs.Crossings.{over, across, pairs, count, leftCross, between}
+use Rattle.tanglegram.specs.Crossings.{over, across, pairs, count}
 use Rattle.tanglegram.specs.Freeing.{choose, freed}
-use Rattle.tanglegram.specs.Run.{left, right, go, run}
-use Rattle.tanglegram.specs.Table.{Table, Layouts, linked, orderOf, crossings, free}
+use Rattle.tanglegram.specs.Run.{Side, left, right, go, run, after}
+use Rattle.tanglegram.specs.Table.{Table, Layouts, pick, linked, crossedPairs, orderOf, crossings, free}
 use Rattle.tanglegram.specs.Entanglement.{sum, displacement, worst}
 
 -- A case: n, the rows of both trees (upper then lower, row after row), the links, both layouts, an allowance.
@@ -22,122 +23,346 @@ pub record Case : Type 0 where
   pub layouts : Layouts
   pub allowance : ℕ
 
--- What is shown of it: both orders; the count; each left row's own crossings; D and W; the left's layout, its order and the count
--- after freeing the left; the run's turns, whether it settled, its last layouts and its last count.
+abbrev pub bytesOf : List ℕ → List ℕ → Layouts
+bytesOf l r = record { left-bytes = l; right-bytes = r }
+
 pub record Shown : Type 0 where
+  -- the record's refusal, or 0
+  pub refused : ℕ
+  -- the orders, the count, each row's own crossings
   pub left-order : List ℕ
   pub right-order : List ℕ
   pub crossed : ℕ
   pub left-own : List ℕ
+  pub right-own : List ℕ
+  -- D and W, and whether there is a ratio
   pub displaced : ℕ
   pub worst-displaced : ℕ
+  pub has-ratio : Bool
+  -- after freeing the left: its layout, its order, the count
   pub left-freed : List ℕ
   pub left-freed-order : List ℕ
   pub left-freed-crossed : ℕ
+  -- the run: its turns, whether it settled, the counts before turn 1 and after each turn, the last layouts
   pub turns : ℕ
   pub settled : Bool
+  pub counts : List ℕ
   pub last-layouts : Layouts
-  pub last-crossed : ℕ
 
-abbrev upper : List ℕ → ℕ → ℕ
-upper rs i = getD rs (2 * pred i) 0
+-- A line: the example's number in the customer's list, 0 for the case of the inverse.
+pub record Line : Type 0 where
+  pub example : ℕ
+  pub from : Case
+  pub shows : Shown
 
-abbrev lower : List ℕ → ℕ → ℕ
-lower rs i = getD rs (2 * pred i + 1) 0
+-- ---- what the definitions say of a case
 
-abbrev made : ℕ → List ℕ → Tree
-made n rs = tree (upper rs) (lower rs) n
+module _ (g : Case) where
+  abbrev upperIn : Side → ℕ → ℕ
+  upperIn side i = getD (pick (g .left-rows) (g .right-rows) side) (2 * pred i) 0
 
-abbrev tableOf : Case → Table
-tableOf g = linked (g .size) (made (g .size) (g .left-rows)) (made (g .size) (g .right-rows)) (g .links)
+  abbrev lowerIn : Side → ℕ → ℕ
+  lowerIn side i = getD (pick (g .left-rows) (g .right-rows) side) (2 * pred i + 1) 0
 
--- row i's own crossings: the crossing pairs with one leaf under its upper and one under its lower child
-abbrev pub ownOf : Case → ℕ → ℕ
-ownOf g i =
-    let rs = g .left-rows in
-    let under : ℕ → Tree = λ k. object (upper rs) (lower rs) (g .size) k in
-    let σ = orderOf (tableOf g) (g .layouts) left in
-    between (leftCross (g .links) σ (orderOf (tableOf g) (g .layouts) right)) (under (upper rs i)) (under (lower rs i))
+  abbrev pub caseTable : Table
+  caseTable =
+      linked (g .size) (tree (upperIn left) (lowerIn left) (g .size)) (tree (upperIn right) (lowerIn right) (g .size)) (g .links)
 
-abbrev pub shown : Case → Shown
-shown g =
-    let T = tableOf g in
-    let s = g .layouts in
-    let e = run (crossings T) (free T) (g .allowance) s in
-    record {
-      left-order = orderOf T s left;
-      right-order = orderOf T s right;
-      crossed = crossings T s;
-      left-own = map (ownOf g) (range 1 (pred (g .size)));
-      displaced = displacement (g .size) (g .links) (orderOf T s left) (orderOf T s right);
-      worst-displaced = worst (g .size);
-      left-freed = free T left s .left-bytes;
-      left-freed-order = orderOf T (free T left s) left;
-      left-freed-crossed = crossings T (free T left s);
-      turns = e .turns;
-      settled = e .settled;
-      last-layouts = e .last;
-      last-crossed = crossings T (e .last);
-    }
+  -- each row's own crossings: the crossing pairs with one leaf under its upper and one under its lower child
+  abbrev pub caseOwn : Side → List ℕ
+  caseOwn side =
+      let under : ℕ → Tree = λ k. object (upperIn side) (lowerIn side) (g .size) k in
+      let σ = orderOf caseTable (g .layouts) left in
+      let τ = orderOf caseTable (g .layouts) right in
+      map (λ i. crossedPairs (g .links) σ τ side (under (upperIn side i)) (under (lowerIn side i))) (range 1 (pred (g .size)))
 
-abbrev pub bytes : List ℕ → List ℕ → Layouts
-bytes l r = record { left-bytes = l; right-bytes = r }
+  abbrev pub shown : Shown
+  shown =
+      let T = caseTable in
+      let s = g .layouts in
+      let e = run (crossings T) (free T) (g .allowance) s in
+      record {
+        refused = 0;
+        left-order = orderOf T s left;
+        right-order = orderOf T s right;
+        crossed = crossings T s;
+        left-own = caseOwn left;
+        right-own = caseOwn right;
+        displaced = displacement (g .size) (g .links) (orderOf T s left) (orderOf T s right);
+        worst-displaced = worst (g .size);
+        has-ratio = not (eqb (g .size) 1);
+        left-freed = free T left s .left-bytes;
+        left-freed-order = orderOf T (free T left s) left;
+        left-freed-crossed = crossings T (free T left s);
+        turns = e .turns;
+        settled = e .settled;
+        counts = map (λ j. crossings T (after (free T) j left s)) (range 0 (suc (e .turns)));
+        last-layouts = e .last;
+      }
 
--- a line of the table, its two halves in the fields' order
-abbrev pub case : ℕ → List ℕ → List ℕ → List ℕ → List ℕ → List ℕ → ℕ → Case
-case n rs rs′ ps l r k =
-    record { size = n; left-rows = rs; right-rows = rs′; links = ps; layouts = bytes l r; allowance = k }
+-- ---- the cases, and what is shown of each
 
-abbrev pub shows : List ℕ → List ℕ → ℕ → List ℕ → ℕ → ℕ → List ℕ → List ℕ → ℕ → ℕ → Bool → Layouts → ℕ → Shown
-shows σ τ x own d w lay σ′ x′ t e s y = record {
-  left-order = σ;
-  right-order = τ;
-  crossed = x;
-  left-own = own;
-  displaced = d;
-  worst-displaced = w;
-  left-freed = lay;
-  left-freed-order = σ′;
-  left-freed-crossed = x′;
-  turns = t;
-  settled = e;
-  last-layouts = s;
-  last-crossed = y;
+-- Examples 1 to 4.
+abbrev pub case2 : Case
+case2 = record {
+  size = 4;
+  left-rows = 1 ∷ 2 ∷ 3 ∷ 5 ∷ 4 ∷ 6 ∷ [];
+  right-rows = 1 ∷ 2 ∷ 3 ∷ 4 ∷ 5 ∷ 6 ∷ [];
+  links = 1 ∷ 2 ∷ 3 ∷ 4 ∷ [];
+  layouts = bytesOf (0 ∷ 0 ∷ 0 ∷ []) (0 ∷ 0 ∷ 0 ∷ []);
+  allowance = 130818;
 }
 
-pub record Line : Type 0 where
-  pub from : Case
-  pub comes : Shown
+abbrev case2Shown : Shown
+case2Shown = record {
+  refused = 0;
+  left-order = 4 ∷ 3 ∷ 1 ∷ 2 ∷ [];
+  right-order = 1 ∷ 2 ∷ 3 ∷ 4 ∷ [];
+  crossed = 5;
+  left-own = 0 ∷ 2 ∷ 3 ∷ [];
+  right-own = 0 ∷ 1 ∷ 4 ∷ [];
+  displaced = 18;
+  worst-displaced = 20;
+  has-ratio = true;
+  left-freed = 0 ∷ 1 ∷ 1 ∷ [];
+  left-freed-order = 1 ∷ 2 ∷ 3 ∷ 4 ∷ [];
+  left-freed-crossed = 0;
+  turns = 2;
+  settled = true;
+  counts = 5 ∷ 0 ∷ 0 ∷ [];
+  last-layouts = bytesOf (0 ∷ 1 ∷ 1 ∷ []) (0 ∷ 0 ∷ 0 ∷ []);
+}
 
-abbrev pub line : Case → Shown → Line
-line g x = record { from = g; comes = x }
+-- Examples 5 and 10: both roots tie, and nothing turns; with other layouts on both sides at once nothing crosses.
+abbrev rootsTie : Layouts → Case
+rootsTie s = record {
+  size = 3;
+  left-rows = 1 ∷ 2 ∷ 4 ∷ 3 ∷ [];
+  right-rows = 1 ∷ 3 ∷ 4 ∷ 2 ∷ [];
+  links = 1 ∷ 2 ∷ 3 ∷ [];
+  layouts = s;
+  allowance = 130818;
+}
+
+abbrev rootsTieShown : Shown
+rootsTieShown = record {
+  refused = 0;
+  left-order = 1 ∷ 2 ∷ 3 ∷ [];
+  right-order = 1 ∷ 3 ∷ 2 ∷ [];
+  crossed = 1;
+  left-own = 0 ∷ 1 ∷ [];
+  right-own = 0 ∷ 1 ∷ [];
+  displaced = 2;
+  worst-displaced = 8;
+  has-ratio = true;
+  left-freed = 0 ∷ 0 ∷ [];
+  left-freed-order = 1 ∷ 2 ∷ 3 ∷ [];
+  left-freed-crossed = 1;
+  turns = 2;
+  settled = true;
+  counts = 1 ∷ 1 ∷ 1 ∷ [];
+  last-layouts = bytesOf (0 ∷ 0 ∷ []) (0 ∷ 0 ∷ []);
+}
+
+abbrev clearedShown : Shown
+clearedShown = record {
+  refused = 0;
+  left-order = 2 ∷ 1 ∷ 3 ∷ [];
+  right-order = 2 ∷ 1 ∷ 3 ∷ [];
+  crossed = 0;
+  left-own = 0 ∷ 0 ∷ [];
+  right-own = 0 ∷ 0 ∷ [];
+  displaced = 0;
+  worst-displaced = 8;
+  has-ratio = true;
+  left-freed = 1 ∷ 0 ∷ [];
+  left-freed-order = 2 ∷ 1 ∷ 3 ∷ [];
+  left-freed-crossed = 0;
+  turns = 2;
+  settled = true;
+  counts = 0 ∷ 0 ∷ 0 ∷ [];
+  last-layouts = bytesOf (1 ∷ 0 ∷ []) (0 ∷ 1 ∷ []);
+}
+
+-- Example 6: turn 1 gains nothing, turn 2 does.
+abbrev pub gainsInTurn2 : Case
+gainsInTurn2 = record {
+  size = 3;
+  left-rows = 1 ∷ 2 ∷ 4 ∷ 3 ∷ [];
+  right-rows = 3 ∷ 2 ∷ 1 ∷ 4 ∷ [];
+  links = 1 ∷ 2 ∷ 3 ∷ [];
+  layouts = bytesOf (0 ∷ 0 ∷ []) (0 ∷ 0 ∷ []);
+  allowance = 130818;
+}
+
+abbrev gainsInTurn2Shown : Shown
+gainsInTurn2Shown = record {
+  refused = 0;
+  left-order = 1 ∷ 2 ∷ 3 ∷ [];
+  right-order = 1 ∷ 3 ∷ 2 ∷ [];
+  crossed = 1;
+  left-own = 0 ∷ 1 ∷ [];
+  right-own = 1 ∷ 0 ∷ [];
+  displaced = 2;
+  worst-displaced = 8;
+  has-ratio = true;
+  left-freed = 0 ∷ 0 ∷ [];
+  left-freed-order = 1 ∷ 2 ∷ 3 ∷ [];
+  left-freed-crossed = 1;
+  turns = 3;
+  settled = true;
+  counts = 1 ∷ 1 ∷ 0 ∷ 0 ∷ [];
+  last-layouts = bytesOf (0 ∷ 0 ∷ []) (1 ∷ 0 ∷ []);
+}
+
+-- Example 7: one leaf, with two turns allowed and with one.
+abbrev pub oneLeaf : ℕ → Case
+oneLeaf k = record {
+  size = 1;
+  left-rows = [];
+  right-rows = [];
+  links = 1 ∷ [];
+  layouts = bytesOf [] [];
+  allowance = k;
+}
+
+abbrev oneLeafShown : ℕ → Bool → List ℕ → Shown
+oneLeafShown t end cs = record {
+  refused = 0;
+  left-order = 1 ∷ [];
+  right-order = 1 ∷ [];
+  crossed = 0;
+  left-own = [];
+  right-own = [];
+  displaced = 0;
+  worst-displaced = 0;
+  has-ratio = false;
+  left-freed = [];
+  left-freed-order = 1 ∷ [];
+  left-freed-crossed = 0;
+  turns = t;
+  settled = end;
+  counts = cs;
+  last-layouts = bytesOf [] [];
+}
+
+-- Example 8.
+abbrev twoLeaves : Case
+twoLeaves = record {
+  size = 2;
+  left-rows = 1 ∷ 2 ∷ [];
+  right-rows = 1 ∷ 2 ∷ [];
+  links = 2 ∷ 1 ∷ [];
+  layouts = bytesOf (0 ∷ []) (0 ∷ []);
+  allowance = 130818;
+}
+
+abbrev twoLeavesShown : Shown
+twoLeavesShown = record {
+  refused = 0;
+  left-order = 1 ∷ 2 ∷ [];
+  right-order = 1 ∷ 2 ∷ [];
+  crossed = 1;
+  left-own = 1 ∷ [];
+  right-own = 1 ∷ [];
+  displaced = 2;
+  worst-displaced = 2;
+  has-ratio = true;
+  left-freed = 1 ∷ [];
+  left-freed-order = 2 ∷ 1 ∷ [];
+  left-freed-crossed = 0;
+  turns = 2;
+  settled = true;
+  counts = 1 ∷ 0 ∷ 0 ∷ [];
+  last-layouts = bytesOf (1 ∷ []) (0 ∷ []);
+}
+
+-- Example 9: rows over three leaves that break the tree rule, on the left or on the right.
+abbrev rowsOver3 : List ℕ → List ℕ → Case
+rowsOver3 l r = record {
+  size = 3;
+  left-rows = l;
+  right-rows = r;
+  links = 1 ∷ 2 ∷ 3 ∷ [];
+  layouts = bytesOf (0 ∷ 0 ∷ []) (0 ∷ 0 ∷ []);
+  allowance = 130818;
+}
+
+abbrev refusedShown : ℕ → Shown
+refusedShown k = record {
+  refused = k;
+  left-order = [];
+  right-order = [];
+  crossed = 0;
+  left-own = [];
+  right-own = [];
+  displaced = 0;
+  worst-displaced = 0;
+  has-ratio = false;
+  left-freed = [];
+  left-freed-order = [];
+  left-freed-crossed = 0;
+  turns = 0;
+  settled = false;
+  counts = [];
+  last-layouts = bytesOf [] [];
+}
+
+-- p = 2, 3, 1 with left order 2 1 3 and right order 1 2 3: p gives 3 crossings, its inverse would give 1.
+abbrev notInverse : Case
+notInverse = record {
+  size = 3;
+  left-rows = 2 ∷ 1 ∷ 4 ∷ 3 ∷ [];
+  right-rows = 1 ∷ 2 ∷ 4 ∷ 3 ∷ [];
+  links = 2 ∷ 3 ∷ 1 ∷ [];
+  layouts = bytesOf (0 ∷ 0 ∷ []) (0 ∷ 0 ∷ []);
+  allowance = 130818;
+}
+
+abbrev notInverseShown : Shown
+notInverseShown = record {
+  refused = 0;
+  left-order = 2 ∷ 1 ∷ 3 ∷ [];
+  right-order = 1 ∷ 2 ∷ 3 ∷ [];
+  crossed = 3;
+  left-own = 1 ∷ 2 ∷ [];
+  right-own = 1 ∷ 2 ∷ [];
+  displaced = 8;
+  worst-displaced = 8;
+  has-ratio = true;
+  left-freed = 1 ∷ 1 ∷ [];
+  left-freed-order = 3 ∷ 1 ∷ 2 ∷ [];
+  left-freed-crossed = 0;
+  turns = 2;
+  settled = true;
+  counts = 3 ∷ 0 ∷ 0 ∷ [];
+  last-layouts = bytesOf (1 ∷ 1 ∷ []) (0 ∷ 0 ∷ []);
+}
+
+-- ---- the list
+
+abbrev line : ℕ → Case → Shown → Line
+line k g x = record { example = k; from = g; shows = x }
+
+abbrev good3 : List ℕ
+good3 = 1 ∷ 2 ∷ 4 ∷ 3 ∷ []
 
 abbrev pub examples : List Line
 examples =
-    -- examples 1 to 4: case 2
-    line (case 4 (1 ∷ 2 ∷ 3 ∷ 5 ∷ 4 ∷ 6 ∷ []) (1 ∷ 2 ∷ 3 ∷ 4 ∷ 5 ∷ 6 ∷ []) (1 ∷ 2 ∷ 3 ∷ 4 ∷ []) (0 ∷ 0 ∷ 0 ∷ []) (0 ∷ 0 ∷ 0 ∷ []) 130818)
-    (shows (4 ∷ 3 ∷ 1 ∷ 2 ∷ []) (1 ∷ 2 ∷ 3 ∷ 4 ∷ []) 5 (0 ∷ 2 ∷ 3 ∷ []) 18 20
-    (0 ∷ 1 ∷ 1 ∷ []) (1 ∷ 2 ∷ 3 ∷ 4 ∷ []) 0 2 true (bytes (0 ∷ 1 ∷ 1 ∷ []) (0 ∷ 0 ∷ 0 ∷ [])) 0)
-    -- examples 5 and 10: both roots tie, and nothing turns
-    ∷ line (case 3 (1 ∷ 2 ∷ 4 ∷ 3 ∷ []) (1 ∷ 3 ∷ 4 ∷ 2 ∷ []) (1 ∷ 2 ∷ 3 ∷ []) (0 ∷ 0 ∷ []) (0 ∷ 0 ∷ []) 130818)
-    (shows (1 ∷ 2 ∷ 3 ∷ []) (1 ∷ 3 ∷ 2 ∷ []) 1 (0 ∷ 1 ∷ []) 2 8
-    (0 ∷ 0 ∷ []) (1 ∷ 2 ∷ 3 ∷ []) 1 2 true (bytes (0 ∷ 0 ∷ []) (0 ∷ 0 ∷ [])) 1)
-    -- example 5 at the layouts that clear it
-    ∷ line (case 3 (1 ∷ 2 ∷ 4 ∷ 3 ∷ []) (1 ∷ 3 ∷ 4 ∷ 2 ∷ []) (1 ∷ 2 ∷ 3 ∷ []) (1 ∷ 0 ∷ []) (0 ∷ 1 ∷ []) 130818)
-    (shows (2 ∷ 1 ∷ 3 ∷ []) (2 ∷ 1 ∷ 3 ∷ []) 0 (0 ∷ 0 ∷ []) 0 8
-    (1 ∷ 0 ∷ []) (2 ∷ 1 ∷ 3 ∷ []) 0 2 true (bytes (1 ∷ 0 ∷ []) (0 ∷ 1 ∷ [])) 0)
-    -- example 6: turn 1 gains nothing, turn 2 does
-    ∷ line (case 3 (1 ∷ 2 ∷ 4 ∷ 3 ∷ []) (3 ∷ 2 ∷ 1 ∷ 4 ∷ []) (1 ∷ 2 ∷ 3 ∷ []) (0 ∷ 0 ∷ []) (0 ∷ 0 ∷ []) 130818)
-    (shows (1 ∷ 2 ∷ 3 ∷ []) (1 ∷ 3 ∷ 2 ∷ []) 1 (0 ∷ 1 ∷ []) 2 8
-    (0 ∷ 0 ∷ []) (1 ∷ 2 ∷ 3 ∷ []) 1 3 true (bytes (0 ∷ 0 ∷ []) (1 ∷ 0 ∷ [])) 0)
-    -- example 7: one leaf, allowances 2 and 1
-    ∷ line (case 1 [] [] (1 ∷ []) [] [] 2) (shows (1 ∷ []) (1 ∷ []) 0 [] 0 0 [] (1 ∷ []) 0 2 true (bytes [] []) 0)
-    ∷ line (case 1 [] [] (1 ∷ []) [] [] 1) (shows (1 ∷ []) (1 ∷ []) 0 [] 0 0 [] (1 ∷ []) 0 1 false (bytes [] []) 0)
-    -- example 8
-    ∷ line (case 2 (1 ∷ 2 ∷ []) (1 ∷ 2 ∷ []) (2 ∷ 1 ∷ []) (0 ∷ []) (0 ∷ []) 130818)
-    (shows (1 ∷ 2 ∷ []) (1 ∷ 2 ∷ []) 1 (1 ∷ []) 2 2 (1 ∷ []) (2 ∷ 1 ∷ []) 0 2 true (bytes (1 ∷ []) (0 ∷ [])) 0)
-    -- p = 2, 3, 1 with left order 2 1 3 and right order 1 2 3: p gives 3, its inverse would give 1
-    ∷ line (case 3 (2 ∷ 1 ∷ 4 ∷ 3 ∷ []) (1 ∷ 2 ∷ 4 ∷ 3 ∷ []) (2 ∷ 3 ∷ 1 ∷ []) (0 ∷ 0 ∷ []) (0 ∷ 0 ∷ []) 130818)
-    (shows (2 ∷ 1 ∷ 3 ∷ []) (1 ∷ 2 ∷ 3 ∷ []) 3 (1 ∷ 2 ∷ []) 8 8
-    (1 ∷ 1 ∷ []) (3 ∷ 1 ∷ 2 ∷ []) 0 2 true (bytes (1 ∷ 1 ∷ []) (0 ∷ 0 ∷ [])) 0)
+    line 1 case2 case2Shown
+    ∷ line 2 case2 case2Shown
+    ∷ line 3 case2 case2Shown
+    ∷ line 4 case2 case2Shown
+    ∷ line 5 (rootsTie (bytesOf (0 ∷ 0 ∷ []) (0 ∷ 0 ∷ []))) rootsTieShown
+    ∷ line 5 (rootsTie (bytesOf (1 ∷ 0 ∷ []) (0 ∷ 1 ∷ []))) clearedShown
+    ∷ line 6 gainsInTurn2 gainsInTurn2Shown
+    ∷ line 7 (oneLeaf 2) (oneLeafShown 2 true (0 ∷ 0 ∷ 0 ∷ []))
+    ∷ line 7 (oneLeaf 1) (oneLeafShown 1 false (0 ∷ 0 ∷ []))
+    ∷ line 8 twoLeaves twoLeavesShown
+    ∷ line 9 (rowsOver3 (1 ∷ 2 ∷ 1 ∷ 3 ∷ []) good3) (refusedShown 7)
+    ∷ line 9 (rowsOver3 good3 (1 ∷ 2 ∷ 1 ∷ 3 ∷ [])) (refusedShown 8)
+    ∷ line 9 (rowsOver3 (1 ∷ 5 ∷ 2 ∷ 3 ∷ []) good3) (refusedShown 7)
+    ∷ line 9 (rowsOver3 good3 (1 ∷ 5 ∷ 2 ∷ 3 ∷ [])) (refusedShown 8)
+    ∷ line 10 (rootsTie (bytesOf (0 ∷ 0 ∷ []) (0 ∷ 0 ∷ []))) rootsTieShown
+    ∷ line 0 notInverse notInverseShown
     ∷ []

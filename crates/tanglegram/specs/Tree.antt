@@ -21,7 +21,7 @@ unfoldable pub rows : Tree → List ℕ
 rows (leaf a) = []
 rows (fork i u l) = i ∷ (rows u ++ rows l)
 
--- P holds of each object of a tree; of each row with its two children; the sum of g over the rows.
+-- P is true of each object of a tree; of each row with its two children; the sum of g over the rows.
 abbrev pub EachObject : (Tree → Type 0) → Tree → Type 0
 EachObject P (leaf a) = P (leaf a)
 EachObject P (fork i u l) = P (fork i u l) × EachObject P u × EachObject P l

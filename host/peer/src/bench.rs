@@ -1,4 +1,4 @@
-// The paper's bench examples 1 to 13, with the numbers typed from the paper.
+// The examples 1 to 13 of docs/CALLS.md, with the numbers that the customer gave for them.
 // Used by `cargo test` only.
 
 use crate::crossings;

@@ -1,6 +1,6 @@
-// The fixed calls that stand at the head of every stream: the paper's examples, both sides of
-// every limit, every refusal of every call, and several faults at once so that the order of the
-// tests shows. They are the same for every seed.
+// The fixed calls that stand at the head of every stream: the examples of docs/CALLS.md, both
+// sides of every limit, every refusal of every call, and several faults at once so that the
+// order of the tests shows. They are the same for every seed.
 
 use crate::desk::hex;
 use crate::faults;

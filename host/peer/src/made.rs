@@ -64,7 +64,7 @@ impl Made {
     }
 }
 
-/// A record from its rows; links are the identity and layouts all 0, as in the paper's examples.
+/// A record from its rows; links are the identity and layouts all 0, as in most of the examples.
 pub fn example(left: &[u16], right: &[u16]) -> Made {
     let rows = left.len() / 2;
     Made {
@@ -78,7 +78,7 @@ pub fn example(left: &[u16], right: &[u16]) -> Made {
     }
 }
 
-/// Examples 1 and 2.
+/// Examples 1 and 2 of docs/CALLS.md.
 pub fn case_2() -> Made {
     example(&[1, 2, 3, 5, 4, 6], &[1, 2, 3, 4, 5, 6])
 }

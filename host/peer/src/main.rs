@@ -1,4 +1,5 @@
-// peer: the paper written a second time, from its definitions, to be compared with the firmware.
+// peer: the calls (docs/CALLS.md) and the record (docs/RECORD.md) written a second time, from the
+// customer's definitions, to be compared with the firmware.
 //   peer answers               answers desk's lines from standard input
 //   peer calls SEED COUNT      writes so many lines of calls
 //   peer sheet                 what `sheet` prints for the record on standard input

@@ -39,7 +39,7 @@ fn places_of(line: &[u8], wanted: impl Fn(u8) -> bool) -> Vec<usize> {
     (0..line.len()).filter(|&at| wanted(line[at])).collect()
 }
 
-/// Puts some bytes in place of the one at a place that holds a wanted byte.
+/// Puts some bytes in place of the one at a place that has a wanted byte.
 fn replace(line: &mut Vec<u8>, wanted: impl Fn(u8) -> bool, by: &[u8], random: &mut Random) {
     let places = places_of(line, wanted);
     if !places.is_empty() {

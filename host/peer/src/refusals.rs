@@ -1,4 +1,4 @@
-// The refusal numbers of the paper, one line each.
+// The refusal numbers (docs/CALLS.md), one line each.
 // Nothing else in this program writes such a number down.
 
 pub const SHORT: u16 = 1;

@@ -1,7 +1,8 @@
 // Trees, layouts, orders: the tree rule, the leaf order of a layout, compatible orders.
-// The leaf order is made in two ways. `leaf_order` is the paper's definition; `places` gives
-// the place of each leaf from the numbers of leaves, going down from the root.
-// An order is compatible by source document 000: the leaves under each object form an interval.
+// The leaf order is made in two ways. `leaf_order` is the definition of docs/CALLS.md; `places`
+// gives the place of each leaf from the numbers of leaves, going down from the root.
+// An order is compatible by its published definition: the leaves under each object form an
+// interval.
 
 use crate::record::{Row, MOST_LEAVES};
 

@@ -1,10 +1,10 @@
--- `heading_number` gives the first of the tests of the first eight bytes and the length that holds.
+-- `heading_number` gives the first of the tests of the first eight bytes and the length that is met.
 use mathlib.Core.Bool.{true, false}
 use mathlib.Core.Path.{_≡_, sym, ap, _∙_}
 use native.Mathlib.Omega.{arith}
-use Rattle.format.specs.Fields.{two, versionAt, holdOf, sizeOf, lengthOf}
-use Rattle.format.specs.Refusals.{isHold, isMark, noSize}
-use Rattle.format.proofs.Heading.{heading-1, heading-2, heading-3, heading-4, heading-5, heading-6, heading-0, sized, passed, failed}
+use Rattle.record_fields.specs.Fields.{two, versionAt, holdOf, sizeOf, lengthOf}
+use Rattle.record_fields.specs.Refusals.{isHold, isMark, noSize}
+use Rattle.record_fields.proofs.Heading.{heading-1, heading-2, heading-3, heading-4, heading-5, heading-6, heading-0, sized, passed, failed}
 use borrow.Author.Needs.{needs}
 use Rattle.record.proofs.heading.heading_number.Statement.{statement}
 use Rattle.record.proofs.heading.heading_number.Tie as tie

@@ -4,7 +4,7 @@ use mathlib.Core.Path.{_≡_}
 use mathlib.Core.Logic.{_⊎_, inl, inr}
 use mathlib.Core.Bool.{true}
 use borrow.Author.Tests.{ne-eqb}
-use Rattle.format.specs.Refusals.{isHold}
+use Rattle.record_fields.specs.Refusals.{isHold}
 use Rattle.record.proofs.heading.is_hold.Statement.{statement}
 use Rattle.record.proofs.heading.is_hold.Tie as tie
 

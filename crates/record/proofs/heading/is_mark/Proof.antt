@@ -1,6 +1,6 @@
 -- `is_mark` says whether the first three bytes are `TGP`.
 use mathlib.Core.Path.{refl}
-use Rattle.format.specs.Refusals.{isMark}
+use Rattle.record_fields.specs.Refusals.{isMark}
 use borrow.Author.Tests.{eq-eqb, ne-eqb}
 use borrow.Author.Needs.{needs}
 use Rattle.record.proofs.heading.is_mark.Statement.{statement}

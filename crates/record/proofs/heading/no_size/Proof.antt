@@ -1,5 +1,5 @@
 -- `no_size` says whether n is 0 or above 512.
-use Rattle.format.specs.Refusals.{noSize}
+use Rattle.record_fields.specs.Refusals.{noSize}
 use borrow.Author.Tests.{eq-eqb, ne-eqb}
 use Rattle.record.proofs.heading.no_size.Statement.{statement}
 use Rattle.record.proofs.heading.no_size.Tie as tie

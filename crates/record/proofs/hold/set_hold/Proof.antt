@@ -1,7 +1,7 @@
 -- `set_hold` answers the refusal and changes nothing, or writes the letter.
 use mathlib.Core.Path.{sym, _∙_}
 use native.Mathlib.Omega.{arith}
-use Rattle.format.proofs.Acceptance.{accepted-sized, holding-accepted}
+use Rattle.record_fields.proofs.Acceptance.{accepted-sized, holding-accepted}
 use Rattle.record.proofs.Outcomes.{hold-refused, hold-set}
 use borrow.Author.Needs.{needs}
 use Rattle.record.proofs.hold.set_hold.Statement.{statement}

@@ -1,7 +1,7 @@
 -- `read` answers the refusal, or the hold and n of an accepted record.
 use mathlib.Core.Path.{sym, _∙_}
 use native.Mathlib.Omega.{arith}
-use Rattle.format.proofs.Acceptance.{accepted-sized}
+use Rattle.record_fields.proofs.Acceptance.{accepted-sized}
 use Rattle.record.proofs.Outcomes.{read-refused, read-accepted}
 use borrow.Author.Needs.{needs}
 use Rattle.record.proofs.reading.read.Statement.{statement}

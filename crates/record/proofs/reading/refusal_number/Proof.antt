@@ -1,9 +1,9 @@
 -- `refusal_number` gives the heading's refusal, or else that of the parts.
 use mathlib.Core.Path.{sym, ap, _∙_, subst}
 use native.Mathlib.Omega.{arith}
-use Rattle.format.specs.Fields.{Sized, partsOf}
-use Rattle.format.specs.Refusals.{contents}
-use Rattle.format.proofs.Acceptance.{refusal-heading, refusal-contents, heading-sized}
+use Rattle.record_fields.specs.Fields.{Sized, partsOf}
+use Rattle.record_fields.specs.Refusals.{contentsRefusal}
+use Rattle.record_fields.proofs.Acceptance.{refusal-heading, refusal-contents, heading-sized}
 use borrow.Author.Needs.{needs}
 use Rattle.record.proofs.reading.refusal_number.Statement.{statement}
 use Rattle.record.proofs.reading.refusal_number.Tie as tie
@@ -31,7 +31,7 @@ returns-2 c =
     let p = c .before .before in
     let s = p .before .before .before .args .s .now in
     c .contents-number .ensures
-    ∙ ap (λ n. contents (partsOf s n)) (c .before .size-of .ensures)
+    ∙ ap (λ n. contentsRefusal (partsOf s n)) (c .before .size-of .ensures)
     ∙ sym (refusal-contents s (sym (p .before .heading-number .ensures) ∙ p .if1 .left))
 
 pub refusal-number-spec : {M : Type 1} → statement M

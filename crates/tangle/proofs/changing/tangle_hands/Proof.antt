@@ -1,5 +1,5 @@
 -- `tangle_hands` meets its contract: a walk of its MIR, by hand. The record is lent again for one call of `hands::hands_named`
--- and comes back as that leaves it; the refusal's number is widened.
+-- and comes back as it is after that; the refusal's number is widened.
 use mathlib.Core.Path.{_≡_, refl, ap}
 use mathlib.Core.List.{List, [], _∷_, map}
 use Prim.Native.Nat.{ℕ, _<_, _^_}
@@ -41,19 +41,19 @@ use denote.Triple.Table.{entered, cited}
 use denote.Triple.Walked.{says, Stays, stay-slice, stay-none-slice, walkOf, goes-slice, goes-none-slice}
 use denote.Triple.Walked.{Walks, ends-at, walked, walk-meets}
 use denote.Exit.{yes}
-use Rattle.format.specs.declared.refusal.Refusal.{Refusal}
-use Rattle.format.proofs.refusal.Refusal as E
-use Rattle.format.proofs.refusal.Refusal.Laws as E′
-use Rattle.hand_entries.specs.declared.hand_entries.HandEntry.{HandEntry}
-use Rattle.hands.specs.Refusals.{Hand}
-use Rattle.hands.specs.Calls.{Hands}
-use Rattle.hand_entries.specs.Entries.{handIn}
-use Rattle.hand_entries.proofs.Again.{LentAgain, lends-again, comes-back}
-use Rattle.hand_entries.proofs.hand_entries.HandEntry as T
-use Rattle.hand_entries.proofs.hands_named as taken
-use Rattle.hand_entries.proofs.hands_named.Symbol as taken-def
-use Rattle.hand_entries.proofs.hands_named.Symbol.{name as #taken}
-use Rattle.hand_entries.proofs.hands_named.Met as taken-thm
+use Rattle.record_fields.specs.declared.refusal.Refusal.{Refusal}
+use Rattle.record_fields.proofs.refusal.Refusal as E
+use Rattle.record_fields.proofs.refusal.Refusal.Laws as E′
+use Rattle.calls_hand_entries.specs.declared.hand_entries.HandEntry.{HandEntry}
+use Rattle.calls_hands.specs.Refusals.{Hand}
+use Rattle.calls_hands.specs.Calls.{Hands}
+use Rattle.calls_hand_entries.specs.Entries.{handIn}
+use Rattle.calls_hand_entries.proofs.Again.{LentAgain, lends-again, comes-back}
+use Rattle.calls_hand_entries.proofs.hand_entries.HandEntry as T
+use Rattle.calls_hand_entries.proofs.hands_named as taken
+use Rattle.calls_hand_entries.proofs.hands_named.Symbol as taken-def
+use Rattle.calls_hand_entries.proofs.hands_named.Symbol.{name as #taken}
+use Rattle.calls_hand_entries.proofs.hands_named.Met as taken-thm
 use Rattle.tangle.specs.ForC.{refusalForC}
 use Rattle.tangle.proofs.answers.TangleRefusal as C
 use Rattle.tangle.proofs.answers.TangleRefusal.Laws as C′
@@ -227,5 +227,5 @@ tangle-hands-spec 𝓤 H 𝓜 𝓖 𝓡 =
     entered 𝓤 H (tripleOf 𝓤 H (𝓖 .A) hands.signature (hands.spec 𝓤 H (𝓖 .A) (𝓜 .mem) (𝓡 .run)))
     (tables 𝓤 H 𝓜 𝓡 code.env .C) (tables 𝓤 H 𝓜 𝓡 code.env .Λ) #hands code.function (code.unfolded 𝓤 H 𝓜 𝓡)
     (hands-meets 𝓤 H (𝓖 .A) (givenOf 𝓤 H 𝓜 𝓖) (𝓜 .mem) (𝓡 .run) (tablesOf 𝓤 H 𝓜 (tables 𝓤 H 𝓜 𝓡 code.env))
-    (cited 𝓤 H (Taken 𝓤 H (𝓖 .A) (𝓜 .mem) (𝓡 .run)) 𝓜 𝓡 code.env #taken taken-def.routine code.calls-hand-entries·hands-named
+    (cited 𝓤 H (Taken 𝓤 H (𝓖 .A) (𝓜 .mem) (𝓡 .run)) 𝓜 𝓡 code.env #taken taken-def.routine code.calls-calls-hand-entries·hands-named
     (taken-thm.met 𝓤 H 𝓜 𝓖 𝓡)))

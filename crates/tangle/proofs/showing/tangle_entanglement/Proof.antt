@@ -3,8 +3,8 @@ use mathlib.Core.Path.{_≡_, refl, sym, ap, _∙_}
 use mathlib.Core.List.{List}
 use Prim.Native.Nat.{ℕ}
 use borrow.Author.Needs.{needs}
-use Rattle.views.specs.declared.answers.Entangled.{Entangled}
-use Rattle.views.specs.Calls.{Entangles}
+use Rattle.calls_show.specs.declared.answers.Entangled.{Entangled}
+use Rattle.calls_show.specs.Calls.{Entangles}
 use Rattle.tangle.specs.declared.answers.TangleEntanglement.{TangleEntanglement}
 use Rattle.tangle.specs.ForC.{entanglementForC, EntanglesForC}
 use Rattle.tangle.proofs.showing.tangle_entanglement.Statement.{statement}

@@ -1,0 +1,103 @@
+-- From what a call found to its statement.
+use Prim.Native.Nat.{ℕ, _≤_, _<_}
+use mathlib.Core.Path.{_≡_, refl, sym, ap, _∙_}
+use mathlib.Core.Logic.{_≢_}
+use mathlib.Core.Bool.{true, false}
+use mathlib.Core.List.{List, _++_}
+use native.Mathlib.Omega.{arith}
+use borrow.Author.Tests.{eq-eqb, ne-eqb, lt-ltb, le-ltb, ltb-false}
+use lib.Dec.{ltb}
+use lib.ListN.{length, take, drop}
+use lib.Seq.{sets}
+use Rattle.tanglegram.specs.Entanglement.{displacement, worst}
+use Rattle.tanglegram.specs.Run.{left, right}
+use Rattle.tanglegram.proofs.Lists.{all-length}
+use Rattle.record_fields.specs.Fields.{sizeOf, parts}
+use Rattle.record_fields.specs.Refusals.{refusal}
+use Rattle.record_fields.specs.Refused.{refused}
+use Rattle.record_fields.proofs.Acceptance.{else-first, none-both}
+use Rattle.record_fields.proofs.Heading.{none-first, not-no}
+use Rattle.record_fields.proofs.Refused.{lent-refused, lent-accepted}
+use Rattle.record_fields.proofs.Stores.{sets-front}
+use Rattle.calls_show.specs.declared.answers.Entangled.the-variants.{Ratio, NoRatio, Refused}
+use Rattle.record_arrays.specs.Sides.{isSide, sideOf}
+use Rattle.calls_show.specs.Refusals.{orderRefusal}
+use Rattle.record_arrays.specs.Shown.{shownOrder, shownCount}
+use Rattle.record_fields.specs.declared.refusal.Refusal.{Refusal}
+use Rattle.calls_show.specs.declared.answers.Counted.{Counted}
+use Rattle.calls_show.specs.Calls.{Orders, countTold, Counts, ratio, entangled, Entangles}
+use Rattle.record_arrays.proofs.AsItStands.{side-perm, over-n}
+use Rattle.record_arrays.proofs.Apart.{order-taken}
+
+module _ (s : List ℕ) where
+  -- ---- counts
+
+  pub count-refused : {k : ℕ} {answer : Counted} → answer ≡ countTold k 0 → k ≡ refusal s → k ≢ 0 → Counts s answer
+  count-refused {k} t e h = record { answers = t ∙ rw (← e, ne-eqb k 0 h) refl }
+
+  pub count-accepted : {r : ℕ} {answer : Counted} → answer ≡ countTold 0 r → refusal s ≡ 0 → r ≡ shownCount s → Counts s answer
+  count-accepted t a e = record { answers = t ∙ rw (a, e) refl }
+
+  -- ---- entanglement
+
+  pub entangled-refused : {k : ℕ} {told : Refusal} → told ≡ refused k → k ≡ refusal s → k ≢ 0 → Entangles s (Refused told)
+  unfolding entangled
+  entangled-refused {k} t e h = record { answers = ap Refused t ∙ rw (← e, ne-eqb k 0 h) refl }
+
+  module _ (a : refusal s ≡ 0) {n : ℕ} (e : n ≡ sizeOf s) where
+    pub entangled-none : n ≡ 1 → Entangles s NoRatio
+    unfolding entangled
+    entangled-none h = record { answers = rw (a, eq-eqb (sizeOf s) 1 (sym e ∙ h)) refl }
+
+    pub entangled-ratio : {d w : ℕ} → n ≢ 1 → d ≡ displacement n (parts s .links) (shownOrder s left) (shownOrder s right) → w ≡ worst n →
+        Entangles s (Ratio d w (ratio d w))
+    unfolding entangled
+    entangled-ratio h p q = record { answers = rw (a, ne-eqb (sizeOf s) 1 (λ z. h (e ∙ z)), p, q, e) refl }
+
+-- ---- a side's order
+
+module _ (s : List ℕ) (side : ℕ) (out : List ℕ) where
+  pub ordering-13 : isSide side ≡ false → 13 ≡ orderRefusal s side out
+  unfolding orderRefusal
+  ordering-13 h = rw h refl
+
+  module _ (good : isSide side ≡ true) where
+    pub ordering-record : refusal s ≢ 0 → refusal s ≡ orderRefusal s side out
+    unfolding orderRefusal
+    ordering-record h = rw good (sym (else-first (refusal s) _ h))
+
+    module _ (a : refusal s ≡ 0) where
+      pub ordering-14 : length out < sizeOf s → 14 ≡ orderRefusal s side out
+      unfolding orderRefusal
+      ordering-14 p = rw (good, a, lt-ltb (length out) (sizeOf s) p) refl
+
+      pub ordering-0 : sizeOf s ≤ length out → 0 ≡ orderRefusal s side out
+      unfolding orderRefusal
+      ordering-0 p = rw (good, a, le-ltb (length out) (sizeOf s) p) refl
+
+  -- where it is not refused
+  pub ordering-good : orderRefusal s side out ≡ 0 → (isSide side ≡ true) × (refusal s ≡ 0) × (sizeOf s ≤ length out)
+  unfolding orderRefusal
+  ordering-good e =
+      let t = none-first _ 13 _ (omega arith) e in
+      let u = none-both (refusal s) _ (t .1) in
+      let v = none-first (ltb (length out) (sizeOf s)) 14 0 (omega arith) (u .1) in
+      (not-no _ (t .0), u .0, ltb-false _ _ (v .0))
+
+  pub order-refused : {k : ℕ} {told : Refusal} → told ≡ refused k → k ≡ orderRefusal s side out → k ≢ 0 → Orders s side out told out
+  order-refused {k} t e h = record { answers = t ∙ ap refused e; afterwards = rw (← e) (lent-refused k (shownOrder s (sideOf side)) out h) }
+
+  pub order-accepted : (n : ℕ) (A found after : List ℕ) {told : Refusal} → told ≡ refused 0 → orderRefusal s side out ≡ 0 → n ≡ sizeOf s →
+      A ≡ shownOrder s (sideOf side) ++ drop n found → after ≡ sets out 0 (take n A) → Orders s side out told after
+  order-accepted n A found after t a e h w =
+      let good = ordering-good a in
+      let g = over-n s (good .1) e in
+      let taken = order-taken s n g (sideOf side) A found h in
+      let long = all-length n _ (side-perm s n g (sideOf side)) in
+      record {
+        answers = t ∙ ap refused (sym a);
+        afterwards =
+            w ∙ ap (sets out 0) taken
+            ∙ sets-front out (shownOrder s (sideOf side)) (omega (arith, good .2, long))
+            ∙ lent-accepted (orderRefusal s side out) (shownOrder s (sideOf side)) out a;
+      }

@@ -1,0 +1,23 @@
+-- What two orders and the links of a record count is what the record shows.
+use Prim.Native.Nat.{ℕ}
+use mathlib.Core.Path.{_≡_, refl, sym, ap}
+use mathlib.Core.List.{List}
+use lib.ListN.{take}
+use Rattle.tanglegram.specs.Crossings.{count}
+use Rattle.tanglegram.specs.Entanglement.{displacement}
+use Rattle.tanglegram.specs.Run.{left, right}
+use Rattle.record_fields.specs.Fields.{parts, partsOf}
+use Rattle.record_arrays.specs.Sides.{RecordOver}
+use Rattle.record_arrays.specs.Apart.{OrdersTaken}
+use Rattle.record_arrays.specs.Shown.{shownOrder, shownCount}
+
+module _ (s : List ℕ) (n : ℕ) (g : RecordOver s n) (σ τ links : List ℕ) (o : OrdersTaken s n σ τ links) where
+  pub count-shown : count n (take n links) (take n σ) (take n τ) ≡ shownCount s
+  unfolding partsOf
+  count-shown =
+      rw (o .its-links, o .left-order, o .right-order)
+      (ap (λ m. count m (parts s .links) (shownOrder s left) (shownOrder s right)) (sym (g .sized .says)))
+
+  pub displacement-shown : displacement n (take n links) (take n σ) (take n τ)
+      ≡ displacement n (parts s .links) (shownOrder s left) (shownOrder s right)
+  displacement-shown = rw (o .its-links, o .left-order, o .right-order) refl

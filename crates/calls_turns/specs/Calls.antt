@@ -1,0 +1,66 @@
+-- What free and run answer, and what the record lent to them is afterwards, for every input.
+use Prim.Native.Nat.{ℕ}
+use mathlib.Core.Path.{_≡_}
+use mathlib.Core.Bool.{cond}
+use mathlib.Core.List.{List}
+use Rattle.tanglegram.specs.Lists.{bit}
+use Rattle.tanglegram.specs.Run.{Side, End, run}
+use Rattle.tanglegram.specs.Table.{Layouts, crossings, free}
+use Rattle.record_fields.specs.Refused.{refused, accepted, orZero}
+use Rattle.record_fields.specs.Meaning.{tableOf, layoutsOf, relaid}
+use Rattle.record_arrays.specs.Sides.{sideOf}
+use Rattle.record_arrays.specs.Shown.{shownCount}
+use Rattle.calls_turns.specs.declared.answers.Freed.{Freed}
+use Rattle.calls_turns.specs.declared.answers.Ran.{Ran}
+use Rattle.calls_turns.specs.Refusals.{freeRefusal, runRefusal}
+
+-- ---- free
+
+-- A side of an accepted record freed: the counts before and after, and the record afterwards.
+pub record RecordFreed (s : List ℕ) (side : Side) (before after : ℕ) (s′ : List ℕ) : Type 0 where
+  pub counted : before ≡ shownCount s
+  pub recounted : after ≡ crossings (tableOf s) (free (tableOf s) side (layoutsOf s))
+  pub afterwards : s′ ≡ relaid s (free (tableOf s) side (layoutsOf s))
+
+-- The layouts after freeing a side.
+abbrev pub freedLayouts : List ℕ → ℕ → Layouts
+freedLayouts s side = free (tableOf s) (sideOf side) (layoutsOf s)
+
+-- Freeing with a refusal's number.
+abbrev pub freeTold : ℕ → ℕ → ℕ → Freed
+freeTold k b a = record { refusal = refused k; before = b; after = a }
+
+pub record Frees (s : List ℕ) (side : ℕ) (answer : Freed) (s′ : List ℕ) : Type 0 where
+  pub answers : answer ≡ record {
+    refusal = refused (freeRefusal s side);
+    before = orZero (freeRefusal s side) (shownCount s);
+    after = orZero (freeRefusal s side) (crossings (tableOf s) (freedLayouts s side));
+  }
+  pub afterwards : s′ ≡ cond (accepted (freeRefusal s side)) (relaid s (freedLayouts s side)) s
+
+-- ---- run
+
+abbrev pub ranTo : List ℕ → ℕ → End Layouts
+ranTo s allowance = run (crossings (tableOf s)) (free (tableOf s)) allowance (layoutsOf s)
+
+-- A run of an accepted record: its first and last count, its turns, whether it settled, and the record afterwards.
+pub record RecordRan (s : List ℕ) (allowance first last turns settled : ℕ) (s′ : List ℕ) : Type 0 where
+  pub first-count : first ≡ shownCount s
+  pub last-count : last ≡ crossings (tableOf s) (ranTo s allowance .last)
+  pub taken : turns ≡ ranTo s allowance .turns
+  pub ended : settled ≡ bit (ranTo s allowance .settled)
+  pub afterwards : s′ ≡ relaid s (ranTo s allowance .last)
+
+-- A run with a refusal's number.
+abbrev pub runTold : ℕ → ℕ → ℕ → ℕ → ℕ → Ran
+runTold k f l t w = record { refusal = refused k; first = f; last = l; turns = t; settled = w }
+
+pub record Runs (s : List ℕ) (allowance : ℕ) (answer : Ran) (s′ : List ℕ) : Type 0 where
+  pub answers : answer ≡ record {
+    refusal = refused (runRefusal s allowance);
+    first = orZero (runRefusal s allowance) (shownCount s);
+    last = orZero (runRefusal s allowance) (crossings (tableOf s) (ranTo s allowance .last));
+    turns = orZero (runRefusal s allowance) (ranTo s allowance .turns);
+    settled = orZero (runRefusal s allowance) (bit (ranTo s allowance .settled));
+  }
+  pub afterwards : s′ ≡ cond (accepted (runRefusal s allowance)) (relaid s (ranTo s allowance .last)) s

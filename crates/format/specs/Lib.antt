@@ -1,5 +1,0 @@
-pub mod Letters
-pub mod Fields
-pub mod Refusals
-pub mod Refused
-pub mod Meaning

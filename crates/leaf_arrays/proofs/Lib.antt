@@ -1,3 +1,0 @@
-pub mod OneToOne
-pub mod Arrays
-pub mod Holding

@@ -1,2 +1,0 @@
-pub mod Orders
-pub mod SideFreed

@@ -1,0 +1,96 @@
+-- What an accepted entanglement says, from its statement; whole numbers up to 2^53 are 64-bit floats without loss.
+use Prim.Native.Nat.{ℕ, _^_, _≤_}
+use mathlib.Core.Path.{_≡_, refl, sym, ap, _∙_, subst}
+use mathlib.Core.Bool.{Bool, true, false, cond}
+use mathlib.Core.List.{List}
+use native.Mathlib.Omega.{arith}
+use borrow.Author.Tests.{eq-eqb, ne-eqb, eqb-true, eqb-false}
+use lib.Dec.{eqb}
+use lib.IntN.{pos}
+use lib.Ieee.{binary64, ofInt}
+use lib.Ieee.Back.{round-whole}
+use Rattle.tanglegram.specs.Entanglement.{worst}
+use Rattle.tanglegram.specs.Run.{left, right}
+use Rattle.tanglegram.proofs.Entanglement.{displacement-worst, worst-most}
+use Rattle.record_fields.specs.Fields.{sizeOf, parts, partsOf}
+use Rattle.record_fields.specs.Refusals.{refusal}
+use Rattle.record_fields.proofs.Acceptance.{accepted-sized}
+use Rattle.record_fields.proofs.Meaning.{links-perm}
+use Rattle.record_arrays.specs.Shown.{shownOrder, shownDisplacement}
+use Rattle.record_arrays.proofs.AsItStands.{over-its-leaves, side-perm}
+use Rattle.record_fields.specs.Refused.{refused}
+use Rattle.calls_show.specs.declared.answers.Entangled.{Entangled}
+use Rattle.calls_show.specs.declared.answers.Entangled.the-variants.{Ratio, NoRatio, Refused}
+use Rattle.calls_show.specs.Calls.{ratio, entangled, Entangles, entangledNumber, displacedIn, worstIn, ratioIn}
+use Rattle.promises.specs.Entanglement as Entanglement
+use Rattle.promises.specs.Entanglement.{Exact, EntangledKeeps}
+
+pub exact : (x : ℕ) → x ≤ 44739072 → Exact x
+unfolding ofInt
+exact x h = round-whole binary64 false x (omega (arith, h))
+
+module _ (s : List ℕ) where
+  -- an answer with number 0 is of a record that is accepted
+  number-0 : entangledNumber (entangled s) ≡ 0 → refusal s ≡ 0
+  unfolding entangled
+  number-0 h = go (eqb (refusal s) 0) refl h
+    where
+      go : (b : Bool) → eqb (refusal s) 0 ≡ b →
+          entangledNumber (cond b (cond (eqb (sizeOf s) 1) NoRatio (Ratio (shownDisplacement s) (worst (sizeOf s))
+          (ratio (shownDisplacement s) (worst (sizeOf s))))) (Refused (refused (refusal s)))) ≡ 0 → refusal s ≡ 0
+      go true e h = eqb-true _ _ e
+      go false e h = h
+
+  module _ (a : refusal s ≡ 0) where
+    at-most : shownDisplacement s ≤ worst (sizeOf s)
+    unfolding partsOf
+    at-most =
+        let over = over-its-leaves s a in
+        displacement-worst (sizeOf s) (parts s .links) (shownOrder s left) (shownOrder s right) (links-perm s a)
+        (side-perm s (sizeOf s) over left) (side-perm s (sizeOf s) over right)
+
+    most : worst (sizeOf s) ≤ 44739072
+    most = worst-most (sizeOf s) (accepted-sized s a .most)
+
+    one-leaf : sizeOf s ≡ 1 → EntangledKeeps s (entangled s)
+    unfolding entangled
+    one-leaf n =
+        let w : 0 ≡ worst (sizeOf s) = ap worst (sym n) in
+        let d : 0 ≡ shownDisplacement s = omega (arith, at-most, w) in
+        rw (a, eq-eqb (sizeOf s) 1 n) (record {
+          displaced = d;
+          worst-value = w;
+          no-worse = omega arith;
+          bounded = omega arith;
+          exact = (exact 0 (omega arith), exact 0 (omega arith));
+          one-leaf = λ _. refl;
+          divided = λ h. absurd (omega (arith, n, h));
+        })
+
+    more-leaves : 2 ≤ sizeOf s → EntangledKeeps s (entangled s)
+    unfolding entangled ratio
+    more-leaves n =
+        rw (a, ne-eqb (sizeOf s) 1 (λ e. absurd (omega (arith, n, e)))) (record {
+          displaced = refl;
+          worst-value = refl;
+          no-worse = at-most;
+          bounded = most;
+          exact = (exact (shownDisplacement s) (omega (arith, at-most, most)), exact (worst (sizeOf s)) most);
+          one-leaf = λ e. absurd (omega (arith, n, e));
+          divided = λ h. refl;
+        })
+
+    keeps : EntangledKeeps s (entangled s)
+    keeps = go (eqb (sizeOf s) 1) refl
+      where
+        go : (b : Bool) → eqb (sizeOf s) 1 ≡ b → EntangledKeeps s (entangled s)
+        go true e = one-leaf (eqb-true (sizeOf s) 1 e)
+        go false e =
+            let some = accepted-sized s a .some in
+            let other = eqb-false (sizeOf s) 1 e in
+            more-leaves (omega (arith, some, other))
+
+pub entanglement : Entanglement.Entanglement
+entanglement = record {
+  keeps = λ s answer o z. subst (EntangledKeeps s) (sym (o .answers)) (keeps s (number-0 s (ap entangledNumber (sym (o .answers)) ∙ z)));
+}

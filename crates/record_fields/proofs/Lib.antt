@@ -1,0 +1,10 @@
+pub mod Stores
+pub mod Cuts
+pub mod RowArrays
+pub mod Tests
+pub mod Heading
+pub mod Contents
+pub mod Acceptance
+pub mod Refused
+pub mod Meaning
+pub mod Rehold

@@ -1,0 +1,22 @@
+-- A refusal as a value, and what a call that is refused answers and keeps: every other number is 0, and what was lent is as found.
+use Prim.Native.Nat.{ℕ}
+use mathlib.Core.Bool.{Bool, cond}
+use mathlib.Core.List.{List, _++_}
+use lib.Dec.{eqb}
+use lib.ListN.{length, drop}
+use Rattle.record_fields.specs.declared.refusal.Refusal.{Refusal}
+
+-- A refusal by its number, 0 for none; whether a call with that number is accepted.
+abbrev pub refused : ℕ → Refusal
+refused k = record { number = k }
+
+abbrev pub accepted : ℕ → Bool
+accepted k = eqb k 0
+
+-- What is in a lent buffer afterwards: if accepted, the part in its first places and beyond as found; if refused, as found.
+abbrev pub lent : ℕ → List ℕ → List ℕ → List ℕ
+lent k part found = cond (accepted k) (part ++ drop (length part) found) found
+
+-- A number that a refused call answers by zero.
+abbrev pub orZero : ℕ → ℕ → ℕ
+orZero k x = cond (accepted k) x 0

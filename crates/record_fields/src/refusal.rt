@@ -1,0 +1,50 @@
+// Refusals: what a call answers when it is refused, and the refusals' numbers (docs/CALLS.md), each with its name.
+ghost use mathlib.Core.Path.{_≡_};
+ghost use Rattle.record_fields.specs.Refused.{refused};
+
+// Why a call is refused; number 0 where it is not.
+pub struct Refusal {
+    pub number: u16,
+}
+
+// The refusal with a number. Every refusal is made here.
+pub fn refused(number: u16) -> Refusal
+    ensures { λ r. ⌜ r ≡ refused number ⌝ }
+{
+    Refusal { number: number }
+}
+
+// fewer than 8 bytes
+pub const SHORT: u16 = 1;
+// the mark isn't `TGP`
+pub const MARK: u16 = 2;
+// the version isn't 1
+pub const VERSION: u16 = 3;
+// the hold isn't one of the four letters
+pub const HOLD: u16 = 4;
+// n is 0 or above 512
+pub const SIZE: u16 = 5;
+// the length isn't 12n-2; in packing, a list has the wrong length
+pub const LENGTH: u16 = 6;
+// a left row breaks the tree rule
+pub const LEFT_ROW: u16 = 7;
+// a right row does
+pub const RIGHT_ROW: u16 = 8;
+// the links aren't one-to-one on 1 to n
+pub const LINKS: u16 = 9;
+// a layout byte isn't 0 or 1
+pub const LAYOUT: u16 = 10;
+// the call frees a held side, runs while a side is held, or has a hand entry for a held side
+pub const HELD: u16 = 11;
+// the allowance is 0 or above 130,818
+pub const ALLOWANCE: u16 = 12;
+// the side isn't 1 (left) or 2 (right)
+pub const SIDE: u16 = 13;
+// an output buffer has too few places
+pub const ROOM: u16 = 14;
+// the row is 0 or above n-1
+pub const ROW: u16 = 15;
+// a proposed order has fewer than n entries, or its first n aren't a compatible order
+pub const ORDER: u16 = 16;
+// a hand list is longer than 1,024
+pub const HANDS: u16 = 17;

@@ -1,9 +1,0 @@
-pub mod Table
-pub mod Stores
-pub mod Objects
-pub mod Walked
-pub mod ByNumber
-pub mod Exchanged
-pub mod LeafCounts
-pub mod Laid
-pub mod Places

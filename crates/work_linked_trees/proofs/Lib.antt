@@ -1,0 +1,2 @@
+pub mod OrdersAtHand
+pub mod SideFreed

@@ -1,0 +1,47 @@
+// Seen places: one bit for each of 512 places, in eight words of 64 bits.
+ghost use mathlib.Core.Path.{_≡_};
+ghost use Prim.Native.Nat.{suc, _-_, _<_, _≤_};
+ghost use Rattle.tanglegram.specs.Entanglement.{sum};
+ghost use Rattle.tanglegram.specs.Lists.{range};
+ghost use Rattle.work_seen_places.specs.Seen.{digit, markAt, past};
+
+// Marks place p, and no other.
+pub fn mark(w: &mut [u64; 8], p: usize)
+    requires { ⌜ p < 512 ⌝ }
+    ensures { λ _. ⌜ now (w .exit) ≡ markAt (now (w .entry)) p ⌝ }
+{
+    let k = p / 64;
+    let j = p % 64;
+    w[k] = w[k] | (1u64 << j);
+}
+
+// The ones of a word.
+fn ones(x: u64) -> u32
+    ensures { λ r. ⌜ (r ≡ sum (digit x) (range 0 64)) × (r ≤ 64) ⌝ }
+{
+    u64::count_ones(x)
+}
+
+// The ones of a word past its digit j.
+fn ones_after(x: u64, j: usize) -> u32
+    requires { ⌜ j < 64 ⌝ }
+    ensures { λ r. ⌜ (r ≡ sum (digit x) (range (suc j) (63 - j))) × (r ≤ 64) ⌝ }
+{
+    u64::count_ones((x >> j) >> 1)
+}
+
+// The number of marked places past p: the ones past it in its own word, and all ones of the words after.
+pub fn ones_past(w: &[u64; 8], p: usize) -> u32
+    requires { ⌜ p < 512 ⌝ }
+    ensures { λ r. ⌜ r ≡ past (now (w .entry)) p ⌝ }
+{
+    let k = p / 64;
+    let j = p % 64;
+    let mut n = ones_after(w[k], j);
+    let mut i = k + 1;
+    while i < 8 {
+        n += ones(w[i]);
+        i += 1;
+    }
+    n
+}

@@ -1,0 +1,9 @@
+pub mod RowArray
+pub mod Stores
+pub mod Objects
+pub mod Walked
+pub mod ByNumber
+pub mod Exchanged
+pub mod LeafCounts
+pub mod Laid
+pub mod Places

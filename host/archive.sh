@@ -1,0 +1,43 @@
+# For the scripts that link C with the calls: how an archive is made and how C is compiled. `archive NAME` proves a
+# library and writes its archive, which is for x86-64; on Arm it also keeps the LLVM module that the archive is compiled
+# from, as target/measure/NAME.bc.
+. "$(dirname "${BASH_SOURCE[0]}")/tools.sh"
+mkdir -p target/measure
+
+# A kit of links to the real one, with a compiler in place of its own that keeps the module it is handed, as FILE.
+keeping_kit() { # FOLDER FILE
+  local to=$1 part file compiler=$toolchain/bin/clang
+  rm -rf "$to"
+  for part in . on "on/$machine" "on/$machine/toolchain" "on/$machine/toolchain/bin"; do
+    rm -f "$to/$part"
+    mkdir -p "$to/$part"
+    for file in "$kit/$part"/*; do ln -sfn "$file" "$to/$part/$(basename "$file")"; done
+  done
+  rm "$to/on/$machine/toolchain/bin/clang"
+  printf '#!/bin/sh\ncp module.bc "%s" || exit 1\nexec "%s" "$@"\n' "$2" "$compiler" \
+    > "$to/on/$machine/toolchain/bin/clang"
+  chmod +x "$to/on/$machine/toolchain/bin/clang"
+}
+
+# Where ARCHIVES names a folder, as host/test/run.sh does, an archive that was made in that run is not made again.
+archive() { # NAME
+  local home=${RATTLE_HOME:-}
+  if [ -n "${ARCHIVES:-}" ] && [ -e "$ARCHIVES/$1" ]; then return; fi
+  if [ "$machine" != x86_64 ]; then
+    home=$PWD/target/measure/kit
+    keeping_kit "$home" "$PWD/target/measure/$1.bc"
+  fi
+  RATTLE_HOME=$home rt staticlib "$1" > "target/measure/$1.log" 2>&1 ||
+    { cat "target/measure/$1.log"; exit 1; }
+  if [ -n "${ARCHIVES:-}" ]; then touch "$ARCHIVES/$1"; fi
+}
+
+# How every C file here is compiled: a number that is cut down or changes its sign without a cast is an error.
+strict=(-O2 -Wall -Wextra -Wconversion -Wsign-conversion -Werror)
+
+# Links C files with an archive; statically, so that no call looks a function of C's up on the measured stack.
+linked() { # PROGRAM ARCHIVE FILE..
+  local program=$1 archive=$2
+  shift 2
+  "${tool}gcc" "${strict[@]}" -static -o "$program" "$@" "$archive"
+}
