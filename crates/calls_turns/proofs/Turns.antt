@@ -18,7 +18,8 @@ use Rattle.calls_turns.specs.declared.answers.Freed.{Freed}
 use Rattle.calls_turns.specs.declared.answers.Ran.{Ran}
 use Rattle.calls_turns.specs.Refusals.{freeRefusal, noAllowance, runRefusal}
 use Rattle.record_arrays.specs.Shown.{shownCount}
-use Rattle.calls_turns.specs.Calls.{freedLayouts, RecordFreed, freeTold, Frees, RecordRan, runTold, Runs}
+use Rattle.calls_turns.specs.Calls.{freedLayouts, freeTold, Frees, runTold, Runs}
+use Rattle.record_turns.specs.Worked.{RecordFreed, RecordRan}
 use Rattle.calls_turns.proofs.Freed.{freed-table, freed-layouts}
 
 -- ---- the refusals

@@ -4,7 +4,6 @@ use mathlib.Core.Path.{_≡_}
 use mathlib.Core.Bool.{cond}
 use mathlib.Core.List.{List}
 use Rattle.tanglegram.specs.Lists.{bit}
-use Rattle.tanglegram.specs.Run.{Side, End, run}
 use Rattle.tanglegram.specs.Table.{Layouts, crossings, free}
 use Rattle.record_fields.specs.Refused.{refused, accepted, orZero}
 use Rattle.record_fields.specs.Meaning.{tableOf, layoutsOf, relaid}
@@ -13,14 +12,9 @@ use Rattle.record_arrays.specs.Shown.{shownCount}
 use Rattle.calls_turns.specs.declared.answers.Freed.{Freed}
 use Rattle.calls_turns.specs.declared.answers.Ran.{Ran}
 use Rattle.calls_turns.specs.Refusals.{freeRefusal, runRefusal}
+pub use Rattle.record_turns.specs.Worked.{ranTo}
 
 -- ---- free
-
--- A side of an accepted record freed: the counts before and after, and the record afterwards.
-pub record RecordFreed (s : List ℕ) (side : Side) (before after : ℕ) (s′ : List ℕ) : Type 0 where
-  pub counted : before ≡ shownCount s
-  pub recounted : after ≡ crossings (tableOf s) (free (tableOf s) side (layoutsOf s))
-  pub afterwards : s′ ≡ relaid s (free (tableOf s) side (layoutsOf s))
 
 -- The layouts after freeing a side.
 abbrev pub freedLayouts : List ℕ → ℕ → Layouts
@@ -39,17 +33,6 @@ pub record Frees (s : List ℕ) (side : ℕ) (answer : Freed) (s′ : List ℕ) 
   pub afterwards : s′ ≡ cond (accepted (freeRefusal s side)) (relaid s (freedLayouts s side)) s
 
 -- ---- run
-
-abbrev pub ranTo : List ℕ → ℕ → End Layouts
-ranTo s allowance = run (crossings (tableOf s)) (free (tableOf s)) allowance (layoutsOf s)
-
--- A run of an accepted record: its first and last count, its turns, whether it settled, and the record afterwards.
-pub record RecordRan (s : List ℕ) (allowance first last turns settled : ℕ) (s′ : List ℕ) : Type 0 where
-  pub first-count : first ≡ shownCount s
-  pub last-count : last ≡ crossings (tableOf s) (ranTo s allowance .last)
-  pub taken : turns ≡ ranTo s allowance .turns
-  pub ended : settled ≡ bit (ranTo s allowance .settled)
-  pub afterwards : s′ ≡ relaid s (ranTo s allowance .last)
 
 -- A run with a refusal's number.
 abbrev pub runTold : ℕ → ℕ → ℕ → ℕ → ℕ → Ran

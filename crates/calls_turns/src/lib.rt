@@ -1,7 +1,6 @@
 // The calls on any bytes that turn branchings over to cross less: free and run.
 pub mod answers;
 mod taking_turns;
-mod working;
 
 pub use taking_turns::free;
 pub use taking_turns::run;

@@ -6,8 +6,6 @@ use crate::answers::Freed;
 use crate::answers::Ran;
 use crate::answers::tell_free;
 use crate::answers::tell_run;
-use crate::working::free_record;
-use crate::working::run_record;
 use record_arrays::is_held;
 use record_arrays::is_side;
 use record_fields::fields::HOLD_AT;
@@ -15,6 +13,8 @@ use record_fields::fields::MOST_TURNS;
 use record_fields::refusal::ALLOWANCE;
 use record_fields::refusal::HELD;
 use record_fields::refusal::SIDE;
+use record_turns::free_record;
+use record_turns::run_record;
 
 // The refusal of freeing a side, or 0.
 fn freeing_number(s: &[u8], side: u16) -> u16

@@ -18,7 +18,7 @@ use Rattle.work_linked_trees.specs.Memory.{here, layoutsFrom, InMemory, SideFre
 use Rattle.work_linked_trees.proofs.SideFreed.{freed-then}
 use Rattle.work_turns.specs.Taken.{RunTaken}
 use Rattle.work_turns.proofs.Taken.{run-then}
-use Rattle.calls_turns.specs.Calls.{RecordFreed, RecordRan, ranTo}
+use Rattle.record_turns.specs.Worked.{RecordFreed, RecordRan, ranTo}
 
 module _ {s : List ℕ} {n : ℕ} {links L l R r : List ℕ} (g : RecordOver s n) (t : TakenApart s n links L l R r) where
   -- the table in the arrays

@@ -1,10 +1,10 @@
 -- `free_apart`: the record's table is in the arrays, the side is freed there, and the layouts go back.
 use mathlib.Core.Path.{refl}
 use Rattle.work_linked_trees.proofs.SideFreed.{memory-now, freed-then}
-use Rattle.calls_turns.proofs.Apart.{record-freed}
+use Rattle.record_turns.proofs.Apart.{record-freed}
 use borrow.Author.Needs.{needs}
-use Rattle.calls_turns.proofs.working.free_apart.Statement.{statement}
-use Rattle.calls_turns.proofs.working.free_apart.Tie as tie
+use Rattle.record_turns.proofs.working.free_apart.Statement.{statement}
+use Rattle.record_turns.proofs.working.free_apart.Tie as tie
 
 abbrev startOf : tie.After-take-apart → tie.Start
 startOf c = c .before .before .before .before .before .before .before .before .before .before

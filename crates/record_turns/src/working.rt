@@ -5,7 +5,7 @@ ghost use mathlib.Core.Path.{_≡_};
 ghost use Prim.Native.Nat.{_+_, _≤_};
 ghost use lib.ListN.{length};
 ghost use Rattle.record_arrays.specs.Sides.{RecordOver, isSide, sideOf};
-ghost use Rattle.calls_turns.specs.Calls.{RecordFreed, RecordRan};
+ghost use Rattle.record_turns.specs.Worked.{RecordFreed, RecordRan};
 use record_arrays::put_back;
 use record_arrays::take_apart;
 use work_freeing::Sums;

@@ -2,10 +2,10 @@
 use mathlib.Core.Path.{refl}
 use Rattle.work_linked_trees.proofs.SideFreed.{memory-now}
 use Rattle.work_turns.proofs.Taken.{run-then}
-use Rattle.calls_turns.proofs.Apart.{record-ran}
+use Rattle.record_turns.proofs.Apart.{record-ran}
 use borrow.Author.Needs.{needs}
-use Rattle.calls_turns.proofs.working.run_apart.Statement.{statement}
-use Rattle.calls_turns.proofs.working.run_apart.Tie as tie
+use Rattle.record_turns.proofs.working.run_apart.Statement.{statement}
+use Rattle.record_turns.proofs.working.run_apart.Tie as tie
 
 abbrev startOf : tie.After-take-apart → tie.Start
 startOf c = c .before .before .before .before .before .before .before .before .before .before

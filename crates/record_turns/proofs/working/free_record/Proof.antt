@@ -2,9 +2,9 @@
 use mathlib.Core.Path.{sym}
 use native.Mathlib.Omega.{arith}
 use borrow.Author.Needs.{needs}
-use Rattle.calls_turns.proofs.Apart.{layout-room}
-use Rattle.calls_turns.proofs.working.free_record.Statement.{statement}
-use Rattle.calls_turns.proofs.working.free_record.Tie as tie
+use Rattle.record_turns.proofs.Apart.{layout-room}
+use Rattle.record_turns.proofs.working.free_record.Statement.{statement}
+use Rattle.record_turns.proofs.working.free_record.Tie as tie
 
 sub-m : tie.Need-sub-m
 sub-m c = search needs
