@@ -1,6 +1,7 @@
 -- Demand 1: "Every call takes any record, list or number, and either answers or refuses exactly as document 01 fixes. A refused call
 -- changes no lent byte. A held side is never moved." What is fixed of a call, for every input, is that call's statement (`Orders`,
--- `Frees`, .., in its crate's `specs/Calls`), which the code is proved to meet; in words it is in docs/CALLS.md.
+-- `Frees`, .., in its crate's `specs/Calls`), which the code is proved to meet. ("Document 01" is the customer's; what it fixes is, in
+-- words, docs/CALLS.md and docs/RECORD.md.)
 use Rattle.promises.specs.Outcomes.{Outcomes}
 use Rattle.promises.specs.Tests.{Tests}
 use Rattle.promises.specs.RefusedCalls.{RefusedCalls}

@@ -2,9 +2,9 @@
 // Used by `cargo test` only.
 
 use crate::crossings;
+use crate::firmware::{self, Entanglement, Run};
 use crate::made::{case_2, example, Made};
 use crate::record::{self, Side};
-use crate::table::{self, Entanglement, Run};
 
 const MOST_TURNS: u32 = 130_818;
 
@@ -14,18 +14,18 @@ fn example_5() -> Made {
 
 fn order(bytes: &[u8], side: u16, n: usize) -> Vec<u16> {
     let mut out = vec![0; n];
-    table::order(bytes, side, &mut out).unwrap();
+    firmware::order(bytes, side, &mut out).unwrap();
     out
 }
 
 fn count(bytes: &[u8]) -> u32 {
-    let count = table::count(bytes).unwrap();
-    assert_eq!(table::pairs(bytes).unwrap(), count);
+    let count = firmware::count(bytes).unwrap();
+    assert_eq!(firmware::pairs(bytes).unwrap(), count);
     count
 }
 
 fn run(bytes: &mut [u8], allowance: u32) -> (u32, u32, u32, bool) {
-    let Run { first, last, turns, settled } = table::run(bytes, allowance).unwrap();
+    let Run { first, last, turns, settled } = firmware::run(bytes, allowance).unwrap();
     (first, last, turns, settled)
 }
 
@@ -56,7 +56,7 @@ fn example_2() {
 #[test]
 fn example_3() {
     let mut bytes = case_2().bytes();
-    assert_eq!(table::free(&mut bytes, 1), Ok((5, 0)));
+    assert_eq!(firmware::free(&mut bytes, 1), Ok((5, 0)));
     let record = record::read(&bytes).unwrap();
     assert_eq!(record.layout(Side::Left), [0, 1, 1]);
     assert_eq!(order(&bytes, 1, 4), [1, 2, 3, 4]);
@@ -66,7 +66,7 @@ fn example_3() {
 
 #[test]
 fn example_4() {
-    let measure = table::entanglement(&case_2().bytes()).unwrap();
+    let measure = firmware::entanglement(&case_2().bytes()).unwrap();
     assert_eq!(measure, Entanglement { d: 18, w: 20, ratio: Some(18.0 / 20.0) });
 }
 
@@ -94,8 +94,8 @@ fn example_5_ties() {
 fn example_6() {
     let before = example(&[1, 2, 4, 3], &[3, 2, 1, 4]).bytes();
     let mut bytes = before.clone();
-    assert_eq!(table::free(&mut bytes, 1), Ok((1, 1)));
-    assert_eq!(table::free(&mut bytes, 2), Ok((1, 0)));
+    assert_eq!(firmware::free(&mut bytes, 1), Ok((1, 1)));
+    assert_eq!(firmware::free(&mut bytes, 2), Ok((1, 0)));
     assert_eq!(run(&mut before.clone(), MOST_TURNS), (1, 0, 3, true));
     assert_eq!(run(&mut before.clone(), 3), (1, 0, 3, true));
     assert_eq!(run(&mut before.clone(), 2), (1, 0, 2, false));
@@ -106,7 +106,7 @@ fn example_7() {
     let mut bytes = example(&[], &[]).bytes();
     assert_eq!(bytes.len(), 10);
     assert_eq!(count(&bytes), 0);
-    assert_eq!(table::entanglement(&bytes).unwrap(), Entanglement { d: 0, w: 0, ratio: None });
+    assert_eq!(firmware::entanglement(&bytes).unwrap(), Entanglement { d: 0, w: 0, ratio: None });
     assert_eq!(run(&mut bytes, 2), (0, 0, 2, true));
     assert_eq!(run(&mut bytes, 1), (0, 0, 1, false));
 }
@@ -117,7 +117,7 @@ fn example_8() {
     record.links = vec![2, 1];
     let mut bytes = record.bytes();
     assert_eq!(count(&bytes), 1);
-    assert_eq!(table::free(&mut bytes, 1), Ok((1, 0)));
+    assert_eq!(firmware::free(&mut bytes, 1), Ok((1, 0)));
     assert_eq!(record::read(&bytes).unwrap().layout(Side::Left), [1]);
 }
 
@@ -125,14 +125,14 @@ fn example_8() {
 fn example_9() {
     let good = [1, 2, 4, 3];
     for bad in [[1, 2, 1, 3], [1, 5, 2, 3]] {
-        assert_eq!(table::check(&example(&bad, &good).bytes()), 7);
-        assert_eq!(table::check(&example(&good, &bad).bytes()), 8);
+        assert_eq!(firmware::check(&example(&bad, &good).bytes()), 7);
+        assert_eq!(firmware::check(&example(&good, &bad).bytes()), 8);
     }
 }
 
 #[test]
 fn example_10() {
-    let measure = table::entanglement(&example_5().bytes()).unwrap();
+    let measure = firmware::entanglement(&example_5().bytes()).unwrap();
     assert_eq!((measure.d, measure.w), (2, 8));
 }
 
@@ -140,33 +140,33 @@ fn example_10() {
 fn example_11() {
     let mut record = case_2();
     record.hold = b'L';
-    assert_eq!(table::free(&mut record.bytes(), 1), Err(11));
-    assert!(table::free(&mut record.bytes(), 2).is_ok());
-    assert_eq!(table::run(&mut record.bytes(), MOST_TURNS), Err(11));
+    assert_eq!(firmware::free(&mut record.bytes(), 1), Err(11));
+    assert!(firmware::free(&mut record.bytes(), 2).is_ok());
+    assert_eq!(firmware::run(&mut record.bytes(), MOST_TURNS), Err(11));
 }
 
 #[test]
 fn example_12() {
     let most = backwards();
     assert_eq!(most.bytes().len(), 6_142);
-    assert_eq!(table::check(&most.bytes()), 0);
+    assert_eq!(firmware::check(&most.bytes()), 0);
     let mut more = most.clone();
     more.n = 513;
-    assert_eq!(table::check(&more.bytes()), 5);
-    assert!(table::run(&mut case_2().bytes(), 130_818).is_ok());
-    assert_eq!(table::run(&mut case_2().bytes(), 130_819), Err(12));
+    assert_eq!(firmware::check(&more.bytes()), 5);
+    assert!(firmware::run(&mut case_2().bytes(), 130_818).is_ok());
+    assert_eq!(firmware::run(&mut case_2().bytes(), 130_819), Err(12));
 }
 
 #[test]
 fn example_13() {
     assert_eq!(count(&backwards().bytes()), 130_816);
-    let measure = table::entanglement(&backwards().bytes()).unwrap();
+    let measure = firmware::entanglement(&backwards().bytes()).unwrap();
     assert_eq!(measure, Entanglement { d: 44_739_072, w: 44_739_072, ratio: Some(1.0) });
 }
 
 #[test]
 fn a_zeroed_record_is_refused_2() {
     for length in 0..60 {
-        assert_eq!(table::check(&vec![0; length]), if length < 8 { 1 } else { 2 });
+        assert_eq!(firmware::check(&vec![0; length]), if length < 8 { 1 } else { 2 });
     }
 }

@@ -2,8 +2,8 @@
 // A line is taken apart whole before anything is tested; one that is no call is answered `?`.
 // At most 1,048,576 bytes are read, and a line that does not end within them gets no answer.
 
+use crate::firmware;
 use crate::record::{self, Buffers, Parts};
-use crate::table;
 
 pub const MOST_BYTES: usize = 1_048_576;
 
@@ -146,12 +146,12 @@ fn count_answer(result: Result<u32, u16>) -> String {
 }
 
 fn order_answer(record: &[u8], side: u16, mut out: Vec<u16>) -> String {
-    let result = table::order(record, side, &mut out);
+    let result = firmware::order(record, side, &mut out);
     format!("{} {}", refusal(&result), commas(&out))
 }
 
 fn entanglement_answer(record: &[u8]) -> String {
-    match table::entanglement(record) {
+    match firmware::entanglement(record) {
         Err(number) => format!("{number} 0 0 none"),
         Ok(measure) => {
             let ratio = measure.ratio.map(|ratio| format!("{:016x}", ratio.to_bits()));
@@ -161,13 +161,13 @@ fn entanglement_answer(record: &[u8]) -> String {
 }
 
 fn free_answer(mut record: Vec<u8>, side: u16) -> String {
-    let result = table::free(&mut record, side);
+    let result = firmware::free(&mut record, side);
     let (before, after) = result.unwrap_or((0, 0));
     format!("{} {before} {after} {}", refusal(&result), hex(&record))
 }
 
 fn run_answer(mut record: Vec<u8>, allowance: u32) -> String {
-    match table::run(&mut record, allowance) {
+    match firmware::run(&mut record, allowance) {
         Err(number) => format!("{number} 0 0 0 0 {}", hex(&record)),
         Ok(run) => {
             let settled = run.settled as u8;
@@ -177,7 +177,7 @@ fn run_answer(mut record: Vec<u8>, allowance: u32) -> String {
 }
 
 fn hands_answer(mut record: Vec<u8>, entries: &[(u16, u16)]) -> String {
-    let result = table::hands(&mut record, entries);
+    let result = firmware::hands(&mut record, entries);
     format!("{} {}", refusal(&result), hex(&record))
 }
 
@@ -215,16 +215,16 @@ pub fn answer(line: &[u8]) -> String {
         return "?".to_string();
     };
     match call {
-        Call::Check(record) => table::check(&record).to_string(),
+        Call::Check(record) => firmware::check(&record).to_string(),
         Call::Order(record, side, out) => order_answer(&record, side, out),
-        Call::Count(record) => count_answer(table::count(&record)),
-        Call::Pairs(record) => count_answer(table::pairs(&record)),
+        Call::Count(record) => count_answer(firmware::count(&record)),
+        Call::Pairs(record) => count_answer(firmware::pairs(&record)),
         Call::Entanglement(record) => entanglement_answer(&record),
         Call::Free(record, side) => free_answer(record, side),
         Call::Run(record, allowance) => run_answer(record, allowance),
         Call::Hands(record, entries) => hands_answer(record, &entries),
-        Call::Better(record, side, x, y) => commas(table::better(&record, side, &x, &y)),
-        Call::BetterCheck(record, side, x, y) => table::better_check(&record, side, &x, &y).to_string(),
+        Call::Better(record, side, x, y) => commas(firmware::better(&record, side, &x, &y)),
+        Call::BetterCheck(record, side, x, y) => firmware::better_check(&record, side, &x, &y).to_string(),
         Call::Hold(record, letter) => hold_answer(record, letter),
         Call::Pack(hold, n, numbers, layouts, out) => pack_answer(hold, n, numbers, layouts, out),
         Call::Unpack(record, numbers, layouts) => unpack_answer(&record, numbers, layouts),

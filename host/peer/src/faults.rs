@@ -197,13 +197,13 @@ pub fn any_bytes(made: &Made, random: &mut Random) -> Vec<u8> {
 #[cfg(test)]
 mod tests {
     use super::*;
-    use crate::table;
+    use crate::firmware;
 
     #[test]
     fn the_fixed_faults_show_every_refusal() {
         assert_eq!(case_2().bytes().len(), 46);
-        let each: Vec<u16> = one_of_each().iter().map(|bytes| table::check(bytes)).collect();
+        let each: Vec<u16> = one_of_each().iter().map(|bytes| firmware::check(bytes)).collect();
         assert_eq!(each, [2, 3, 4, 5, 7, 8, 9, 10, 10, 1, 6]);
-        assert!(single().iter().chain(&several()).all(|bytes| table::check(bytes) != 0));
+        assert!(single().iter().chain(&several()).all(|bytes| firmware::check(bytes) != 0));
     }
 }

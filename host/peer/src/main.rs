@@ -13,6 +13,7 @@ mod crossings;
 mod desk;
 mod edges;
 mod faults;
+mod firmware;
 mod lines;
 mod made;
 mod malformed;
@@ -23,7 +24,6 @@ mod refusals;
 mod shapes;
 mod sheet;
 mod speed;
-mod table;
 mod tree;
 
 use std::io::{self, BufWriter, Read, Write};

@@ -66,7 +66,7 @@ fn both(first: &(Seen, u32), second: &(Seen, u32)) -> (Seen, u32) {
     (set, first.1 + second.1)
 }
 
-/// As `table::free`.
+/// As `firmware::free`.
 pub fn free(bytes: &mut [u8], side: u16) -> Result<(u32, u32), u16> {
     let side = Side::of(side)?;
     let mut record = record::read(bytes)?;
@@ -79,7 +79,7 @@ pub fn free(bytes: &mut [u8], side: u16) -> Result<(u32, u32), u16> {
     Ok(counts)
 }
 
-/// As `table::run`; the answer is the first count, the last count, the turns and settled.
+/// As `firmware::run`; the answer is the first count, the last count, the turns and settled.
 pub fn run(bytes: &mut [u8], allowance: u32) -> Result<(u32, u32, u32, bool), u16> {
     if allowance == 0 || allowance > MOST_TURNS {
         return Err(refusals::ALLOWANCE);
@@ -106,9 +106,9 @@ pub fn run(bytes: &mut [u8], allowance: u32) -> Result<(u32, u32, u32, bool), u1
 #[cfg(test)]
 mod tests {
     use super::*;
+    use crate::firmware;
     use crate::made;
     use crate::random::Random;
-    use crate::table;
 
     #[test]
     fn quick_calls_do_what_the_definitions_say() {
@@ -118,13 +118,13 @@ mod tests {
             let bytes = made::any_record(n, &mut random).bytes();
             for side in [1, 2] {
                 let (mut one, mut two) = (bytes.clone(), bytes.clone());
-                assert_eq!(free(&mut one, side), table::free(&mut two, side));
+                assert_eq!(free(&mut one, side), firmware::free(&mut two, side));
                 assert_eq!(one, two);
             }
             for allowance in [0, 1, 2, 3, MOST_TURNS] {
                 let (mut one, mut two) = (bytes.clone(), bytes.clone());
-                let report = |run: table::Run| (run.first, run.last, run.turns, run.settled);
-                assert_eq!(run(&mut one, allowance), table::run(&mut two, allowance).map(report));
+                let report = |run: firmware::Run| (run.first, run.last, run.turns, run.settled);
+                assert_eq!(run(&mut one, allowance), firmware::run(&mut two, allowance).map(report));
                 assert_eq!(one, two);
             }
         }

@@ -2,8 +2,8 @@
 // orders, the count, D and W; then the run with the whole allowance and the orders afterwards.
 // A bad record prints only its refusal, a held one its first five lines and then REFUSED 11.
 
+use crate::firmware;
 use crate::record::{self, Record, Side};
-use crate::table;
 use crate::tree;
 
 const ALLOWANCE: u32 = 130_818;
@@ -24,8 +24,8 @@ fn orders(record: &Record) -> String {
 /// The first five lines.
 fn first_lines(bytes: &[u8]) -> Result<String, u16> {
     let record = record::read(bytes)?;
-    let count = table::count(bytes)?;
-    let measure = table::entanglement(bytes)?;
+    let count = firmware::count(bytes)?;
+    let measure = firmware::entanglement(bytes)?;
     let head = format!("TGP 1 {} {}\n", record.hold as char, record.n);
     let numbers = format!("X {count}\nE {} {}\n", measure.d, measure.w);
     Ok(head + &orders(&record) + &numbers)
@@ -33,7 +33,7 @@ fn first_lines(bytes: &[u8]) -> Result<String, u16> {
 
 /// The last three lines; the run changes the bytes.
 fn run_lines(bytes: &mut [u8]) -> Result<String, u16> {
-    let run = table::run(bytes, ALLOWANCE)?;
+    let run = firmware::run(bytes, ALLOWANCE)?;
     let letter = if run.settled { 'S' } else { 'U' };
     let turns = format!("T {} {letter} {}\n", run.turns, run.last);
     Ok(turns + &orders(&record::read(bytes)?))

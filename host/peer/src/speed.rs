@@ -5,8 +5,8 @@
 use std::hint::black_box;
 use std::time::{Duration, Instant};
 
+use crate::firmware;
 use crate::quick;
-use crate::table;
 
 const BATCH: Duration = Duration::from_millis(50);
 const BATCHES: usize = 9;
@@ -16,9 +16,9 @@ pub fn speed(call: &str, record: &[u8]) -> Option<u64> {
     let mut lent = record.to_vec();
     match call {
         "count" => {
-            table::count(record).ok()?;
+            firmware::count(record).ok()?;
             Some(median(|| {
-                let _ = black_box(table::count(black_box(record)));
+                let _ = black_box(firmware::count(black_box(record)));
             }))
         }
         "free" => {

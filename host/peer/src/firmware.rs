@@ -1,4 +1,4 @@
-// The calls of the table, each with its refusals in their order (docs/CALLS.md): 17, 12, 13, then
+// The calls, each with its refusals in their order (docs/CALLS.md): 17, 12, 13, then
 // the record's 1 to 10, then 16, 11, 14. A call that is refused changes nothing that was lent,
 // because it works on a record of its own and puts layouts back at the end only.
 
