@@ -21,7 +21,8 @@ use Rattle.work_trees.specs.Rows.{upper, lower, size, objectOf, treeOf, GoodRow
 use Rattle.work_trees.specs.Exchange.{exchanged, Exchanges, Laid, givenTree}
 use Rattle.work_trees.proofs.LeafCounts.{counts-stay}
 use Rattle.work_trees.proofs.Laid.{laid-object, laid-back, exchanged-good, exchanged-size, turned-good, turned-given}
-use Rattle.work_freeing.specs.Row.{standing, turnedOver, turnsOver, gain, byteAfter, ownAfter, fewest, sumTo, RowsDecided, RowsFreed}
+use Rattle.work_freeing.specs.Rows.{standing, turnedOver, gain, fewest, sumTo, RowsDecided, RowsFreed}
+use Rattle.work_deciding.specs.Row.{turnsOver, byteAfter, ownAfter}
 
 -- a row's own crossings at the other byte
 own-other : (a b x : ℕ) → own a b (flip x) ≡ cond (turned x) a b

@@ -24,7 +24,8 @@ use Rattle.work_trees.proofs.Walked.{length-leaves, leaves-leaf}
 use Rattle.work_places.specs.Arrays.{at, falls}
 use Rattle.work_places.proofs.OneToOne.{at-place-leaf}
 use Rattle.work_crossings.proofs.Runs.{across-falls}
-use Rattle.work_freeing.specs.Row.{Apart, standing, turnedOver, asItStands, theOther}
+use Rattle.work_freeing.specs.Rows.{Apart, standing, turnedOver}
+use Rattle.work_deciding.specs.Row.{asItStands, theOther}
 use Rattle.work_freeing.proofs.Under.{pairwise-unmapped}
 use Rattle.work_freeing.proofs.Freed.{Own}
 use Rattle.work_freeing.proofs.Stands.{Stands, Somewhere, stands-both, somewhere-under, together}

@@ -17,8 +17,10 @@ use Rattle.work_trees.specs.Rows.{upper, lower, size}
 use Rattle.work_trees.specs.Exchange.{exchangedAt, Exchanges}
 use Rattle.work_trees.proofs.Exchanged.{exchangedAt-row, exchangedAt-other}
 use Rattle.work_trees.proofs.RowArray.{rows-long}
-use Rattle.work_freeing.specs.Row.{standing, turnedOver, turnsOver, gain, byteAfter, ownAfter, fewest}
-use Rattle.work_freeing.specs.Row.{sumTo, Decided, Decides, RowsDecided}
+use Rattle.work_freeing.specs.Rows.{standing, turnedOver, gain, fewest}
+use Rattle.work_deciding.specs.Row.{turnsOver, byteAfter, ownAfter}
+use Rattle.work_freeing.specs.Rows.{sumTo, RowsDecided}
+use Rattle.work_deciding.specs.Row.{Decided, Decides}
 
 -- one row more in a sum
 sum-more : (f : ℕ → ℕ) (i : ℕ) → 1 ≤ i → sumTo f (i + 1) ≡ sumTo f i + f i

@@ -11,7 +11,7 @@ use Rattle.work_trees.specs.Rows.{upper, lower, size, treeOf, GoodRows}
 use Rattle.work_trees.specs.Exchange.{givenTree, LaidOut}
 use Rattle.work_trees.proofs.Walked.{length-leaves}
 use Rattle.work_places.specs.Arrays.{OneToN}
-use Rattle.work_freeing.specs.Row.{InOrder}
+use Rattle.work_freeing.specs.Rows.{InOrder}
 
 module _ (W : List ℕ) (good : GoodRows W) where
   pub walked : (out : List ℕ) {out′ : List ℕ} → length out ≡ 512 → out′ ≡ leaves (treeOf W) ++ drop (size W) out → InOrder W out′

@@ -21,7 +21,7 @@ use Rattle.work_trees.specs.Rows.{upper, lower, size, treeOf, GoodRows}
 use Rattle.work_trees.specs.Exchange.{exchanged, givenTree, LaidOut}
 use Rattle.work_trees.proofs.Laid.{exchanged-good, exchanged-size, laid-out-order}
 use Rattle.work_places.specs.Arrays.{at, begin, Has}
-use Rattle.work_freeing.specs.Row.{RowsFreed}
+use Rattle.work_freeing.specs.Rows.{RowsFreed}
 use Rattle.work_linked_trees.specs.Memory.{layoutsFrom, tableFrom, InMemory, SideFreed, here}
 
 -- ---- a side in memory is a tree over its leaves

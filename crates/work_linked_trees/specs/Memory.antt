@@ -10,7 +10,7 @@ use Rattle.tanglegram.specs.Table.{Table, Layouts, pick, linked, crossings, fre
 use Rattle.work_trees.specs.Exchange.{givenTree, LaidOut}
 use Rattle.work_trees.specs.Rows.{LeafCounts}
 use Rattle.work_places.specs.Arrays.{OneToN}
-use Rattle.work_freeing.specs.Row.{InOrder}
+use Rattle.work_freeing.specs.Rows.{InOrder}
 
 abbrev pub layoutsFrom : List ℕ → List ℕ → Layouts
 layoutsFrom l r = record { left-bytes = l; right-bytes = r }

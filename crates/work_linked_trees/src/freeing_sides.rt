@@ -11,7 +11,7 @@ ghost use Rattle.tanglegram.specs.Tree.{leaves};
 ghost use Rattle.work_trees.specs.Exchange.{givenTree};
 ghost use Rattle.work_trees.specs.Rows.{GoodRows, size, treeOf};
 ghost use Rattle.work_places.specs.Arrays.{OneToN};
-ghost use Rattle.work_freeing.specs.Row.{InOrder, RowsFreed};
+ghost use Rattle.work_freeing.specs.Rows.{InOrder, RowsFreed};
 ghost use Rattle.work_linked_trees.specs.Memory.{Counted, InMemory, layoutsFrom, OrderAtHand, SideFreed};
 use work_freeing::Sums;
 use work_freeing::free_rows;

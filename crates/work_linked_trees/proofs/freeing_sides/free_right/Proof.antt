@@ -4,7 +4,7 @@ use lib.ListN.{take}
 use Rattle.work_trees.specs.Rows.{size}
 use Rattle.work_places.specs.Arrays.{OneToN}
 use Rattle.work_crossings.proofs.Count.{near-apart}
-use Rattle.work_freeing.specs.Row.{InOrder}
+use Rattle.work_freeing.specs.Rows.{InOrder}
 use Rattle.work_linked_trees.proofs.OrdersAtHand.{walked, in-order-one, a-side}
 use Rattle.work_linked_trees.proofs.SideFreed.{side-once, freed-seen-right}
 use borrow.Author.Needs.{needs}

@@ -3,8 +3,8 @@ use Prim.Native.Nat.{_*_, _≤_}
 use native.Mathlib.Nat.{mul-le-mul}
 use native.Mathlib.Omega.{arith}
 use borrow.Author.Needs.{needs}
-use Rattle.work_freeing.proofs.rows.own_crossings.Statement.{statement}
-use Rattle.work_freeing.proofs.rows.own_crossings.Tie as tie
+use Rattle.work_deciding.proofs.deciding.own_crossings.Statement.{statement}
+use Rattle.work_deciding.proofs.deciding.own_crossings.Tie as tie
 
 few : (c : tie.Start) → c .args .first * c .args .second ≤ 512 * 512
 few c =

@@ -1,20 +1,19 @@
--- The rows of a side that is freed: what is asked of the arrays, whether a row is turned over, its byte and its entries afterwards, and
--- the rows' own crossings summed.
-use Prim.Native.Nat.{ℕ, pred, _+_, _≤_, _<_}
+-- The rows of a side that is freed: what is asked of the arrays, each row decided, and the rows' own crossings summed.
+use Prim.Native.Nat.{ℕ, pred, _≤_, _<_}
 use mathlib.Core.Path.{_≡_}
-use mathlib.Core.Bool.{Bool, cond, _&&_}
+use mathlib.Core.Bool.{Bool}
 use mathlib.Core.List.{List, map}
-use lib.Dec.{ltb}
-use lib.ListN.{length, set, take, drop}
+use lib.ListN.{length, take}
 use Rattle.tanglegram.specs.Lists.{Each, Distinct, range}
-use Rattle.tanglegram.specs.Order.{byte, mayChange, flip}
+use Rattle.tanglegram.specs.Order.{byte}
 use Rattle.tanglegram.specs.Tree.{leaves}
-use Rattle.tanglegram.specs.Crossings.{across, between, cost}
+use Rattle.tanglegram.specs.Crossings.{between, cost}
 use Rattle.tanglegram.specs.Freeing.{freed}
 use Rattle.tanglegram.specs.Entanglement.{sum}
 use Rattle.work_trees.specs.Rows.{upper, lower, size, objectOf, treeOf, LeafCounts}
-use Rattle.work_trees.specs.Exchange.{exchangedAt, Exchanges, givenTree, LaidOut}
-use Rattle.work_places.specs.Arrays.{at, falls}
+use Rattle.work_trees.specs.Exchange.{Exchanges, givenTree, LaidOut}
+use Rattle.work_places.specs.Arrays.{at}
+use Rattle.work_deciding.specs.Row.{turnsOver, byteAfter, ownAfter}
 
 -- The links of leaves 1 to n end at places below 512, each at another, by the array of these places.
 abbrev pub Apart : ℕ → List ℕ → Type 0
@@ -31,35 +30,6 @@ standing w T i = between w (objectOf T (upper T i)) (objectOf T (lower T i))
 
 abbrev pub turnedOver : (ℕ → ℕ → ℕ) → List ℕ → ℕ → ℕ
 turnedOver w T i = between w (objectOf T (lower T i)) (objectOf T (upper T i))
-
--- The crossings of two runs of links by their far places, `first` of them from index `at` on and `second` right after: as they stand, and
--- the other way round.
-abbrev pub asItStands : List ℕ → ℕ → ℕ → ℕ → ℕ
-asItStands seen at first second = across falls (take first (drop at seen)) (take second (drop (at + first) seen))
-
-abbrev pub theOther : List ℕ → ℕ → ℕ → ℕ → ℕ
-theOther seen at first second = across falls (take second (drop (at + first) seen)) (take first (drop at seen))
-
--- Freeing turns a row over, from its byte and its own crossings as it stands and turned over: if the byte may change, and that makes
--- them strictly fewer.
-abbrev pub turnsOver : ℕ → ℕ → ℕ → Bool
-turnsOver x count other = mayChange x && ltb other count
-
--- Its byte, and its own crossings, after freeing: `choose` of `tanglegram` is this byte at its test.
-abbrev pub byteAfter : ℕ → Bool → ℕ
-byteAfter x turns = cond turns (flip x) x
-
-abbrev pub ownAfter : ℕ → ℕ → Bool → ℕ
-ownAfter count other turns = cond turns other count
-
--- One row decided, in a row array and in its layout.
-pub record Decided (turns : Bool) (W lay : List ℕ) (row count other answer : ℕ) (W′ lay′ : List ℕ) : Type 0 where
-  pub answers : answer ≡ ownAfter count other turns
-  pub rows : W′ ≡ cond turns (exchangedAt W row) W
-  pub bytes : lay′ ≡ cond turns (set lay (pred row) (flip (byte lay row))) lay
-
-abbrev pub Decides : List ℕ → List ℕ → ℕ → ℕ → ℕ → ℕ → List ℕ → List ℕ → Type 0
-Decides W lay row count other = Decided (turnsOver (byte lay row) count other) W lay row count other
 
 -- Row i of a row array that has a layout applied: whether freeing turns it over, and its own crossings after freeing.
 abbrev pub gain : (ℕ → ℕ → ℕ) → List ℕ → List ℕ → ℕ → Bool

@@ -7,10 +7,10 @@ use borrow.Author.Tests.{not-true, not-false}
 use lib.ListN.{getD}
 use Rattle.tanglegram.specs.Order.{byte}
 use Rattle.work_trees.proofs.RowArray.{upper-place, lower-place}
-use Rattle.work_freeing.specs.Row.{turnsOver}
+use Rattle.work_deciding.specs.Row.{turnsOver}
 use borrow.Author.Needs.{needs}
-use Rattle.work_freeing.proofs.rows.decide.Statement.{statement}
-use Rattle.work_freeing.proofs.rows.decide.Tie as tie
+use Rattle.work_deciding.proofs.deciding.decide.Statement.{statement}
+use Rattle.work_deciding.proofs.deciding.decide.Tie as tie
 
 sub-x : tie.Need-sub-x
 sub-x c = search needs
