@@ -1,44 +1,30 @@
 // The calls that change no record: check, order, count, pairs, entanglement, better and its check.
-use crate::answering::list;
-use crate::answering::next_bits;
-use crate::answering::next_list;
-use crate::answering::no_call;
-use crate::parsing::bytes;
-use crate::parsing::list as list_in;
-use crate::parsing::number;
-use crate::words::part;
-use crate::words::word;
+ghost use mathlib.Core.Bool.{cond};
+ghost use mathlib.Core.Path.{_≡_};
+ghost use lib.Ieee.{binary64, eq, toBits};
 use calls_show::answers::Counted;
 use calls_show::answers::Entangled;
+use desk_words::lists::list as list_in;
+use desk_words::numbers::number;
+use desk_words::spelling::list;
+use desk_words::spelling::next_bits;
+use desk_words::spelling::next_list;
+use desk_words::spelling::no_call;
+use desk_words::words::word;
 
-// check RECORD -> NUMBER
-pub fn check(line: &[u8], s: &mut [u8]) {
-    let n = bytes(word(line, 1), s, 0);
-    if s.len() < n {
-        return no_call();
-    }
-    let found = record::check(&s[..n]);
-    printing::entry(found.number);
+// NUMBER
+fn only(number: u16) {
+    printing::entry(number);
     printing::end();
 }
 
-// order RECORD SIDE OUT -> NUMBER OUT
-pub fn order(line: &[u8], s: &mut [u8], xs: &mut [u16]) {
-    let n = bytes(word(line, 1), s, 0);
-    if s.len() < n {
-        return no_call();
-    }
-    let side = number(word(line, 2), 65535);
-    if 65535 < side {
-        return no_call();
-    }
-    let m = list_in(word(line, 3), xs, 0);
-    if xs.len() < m {
-        return no_call();
-    }
-    ordered(&s[..n], side as u16, &mut xs[..m])
+// check RECORD -> NUMBER
+pub fn check(s: &[u8]) {
+    let found = record::check(s);
+    only(found.number)
 }
 
+// NUMBER OUT
 fn ordered(s: &[u8], side: u16, xs: &mut [u16]) {
     let done = calls_show::order(s, side, xs);
     printing::entry(done.number);
@@ -46,24 +32,35 @@ fn ordered(s: &[u8], side: u16, xs: &mut [u16]) {
     printing::end();
 }
 
-// count RECORD -> NUMBER COUNT, by seen places; and pairs RECORD -> NUMBER COUNT, pair by pair
-pub fn count(line: &[u8], paired: bool, s: &mut [u8]) {
-    let n = bytes(word(line, 1), s, 0);
-    if s.len() < n {
+// order RECORD SIDE OUT -> NUMBER OUT
+pub fn order(line: &[u8], s: &[u8], xs: &mut [u16]) {
+    let side = number(word(line, 2), 65535);
+    if 65535 < side {
         return no_call();
     }
-    let answer = counted(&s[..n], paired);
+    let n = list_in(word(line, 3), xs);
+    if xs.len() < n {
+        return no_call();
+    }
+    ordered(s, side as u16, &mut xs[..n])
+}
+
+// NUMBER COUNT
+fn counted(answer: Counted) {
     let refusal = answer.refusal;
     printing::entry(refusal.number);
     printing::next(answer.count);
     printing::end();
 }
 
-fn counted(s: &[u8], paired: bool) -> Counted {
-    if paired {
-        return calls_show::pairs(s);
-    }
-    calls_show::count(s)
+// count RECORD -> NUMBER COUNT, by seen places
+pub fn count(s: &[u8]) {
+    counted(calls_show::count(s))
+}
+
+// pairs RECORD -> NUMBER COUNT, pair by pair
+pub fn pairs(s: &[u8]) {
+    counted(calls_show::pairs(s))
 }
 
 // NUMBER 0 0 none
@@ -72,8 +69,10 @@ fn no_ratio(number: u16) {
     printing::text(b" 0 0 none\n")
 }
 
-// A ratio's bits; a ratio is a number, and equal to itself.
-fn bits(x: f64) -> u64 {
+// A ratio's bits; 0 for what is no number and so not equal to itself, which no ratio is.
+fn bits(x: f64) -> u64
+    ensures { λ r. ⌜ r ≡ cond (eq x x) (toBits binary64 x) 0 ⌝ }
+{
     if x == x {
         return f64::to_bits(x);
     }
@@ -90,51 +89,38 @@ fn ratio(d: u32, w: u32, x: f64) {
 }
 
 // entanglement RECORD -> NUMBER D W RATIO
-pub fn entanglement(line: &[u8], s: &mut [u8]) {
-    let n = bytes(word(line, 1), s, 0);
-    if s.len() < n {
-        return no_call();
-    }
-    match calls_show::entanglement(&s[..n]) {
+pub fn entanglement(s: &[u8]) {
+    match calls_show::entanglement(s) {
         Entangled::Ratio(d, w, x) => ratio(d, w, x),
         Entangled::NoRatio => no_ratio(0),
         Entangled::Refused(refusal) => no_ratio(refusal.number),
     }
 }
 
-// better RECORD SIDE FIRST SECOND -> PART, and better_check RECORD SIDE FIRST SECOND -> NUMBER
-pub fn better(line: &[u8], check: bool, s: &mut [u8], xs: &mut [u16]) {
-    let n = bytes(word(line, 1), s, 0);
-    if s.len() < n {
-        return no_call();
-    }
-    better_orders(line, check, &s[..n], xs)
-}
-
-fn better_orders(line: &[u8], check: bool, s: &[u8], xs: &mut [u16]) {
+// better RECORD SIDE FIRST SECOND -> PART, and better_check RECORD SIDE FIRST SECOND -> NUMBER. The second list stands
+// behind the first in xs.
+pub fn better(line: &[u8], s: &[u8], xs: &mut [u16], check: bool) {
     let side = number(word(line, 2), 65535);
     if 65535 < side {
         return no_call();
     }
-    let middle = list_in(word(line, 3), xs, 0);
-    let end = list_in(word(line, 4), xs, middle);
-    if xs.len() < end {
+    let a = list_in(word(line, 3), xs);
+    if xs.len() < a {
         return no_call();
     }
-    compared(
-        check,
-        s,
-        side as u16,
-        part(xs, 0, middle),
-        part(xs, middle, end),
-    )
+    let b = list_in(word(line, 4), &mut xs[a..]);
+    if xs.len() - a < b {
+        return no_call();
+    }
+    let end = a + b;
+    let lists = &xs[..];
+    compared(check, s, side as u16, &lists[..a], &lists[a..end])
 }
 
 fn compared<'a>(check: bool, s: &[u8], side: u16, first: &'a [u16], second: &'a [u16]) {
     if check {
         let found = calls_better::better_check(s, side, first, second);
-        printing::entry(found.number);
-        return printing::end();
+        return only(found.number);
     }
     list(calls_better::better(s, side, first, second));
     printing::end();

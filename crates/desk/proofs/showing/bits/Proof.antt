@@ -1,5 +1,5 @@
 -- `bits`: a float that equals itself is a number.
-use mathlib.Core.Path.{_≡_}
+use mathlib.Core.Path.{_≡_, refl}
 use mathlib.Core.Bool.{true, false≢true, not}
 use borrow.Author.Needs.{needs}
 use lib.Dec.{T}
@@ -17,10 +17,10 @@ float-to-bits-result : tie.Need-float-to-bits-result
 float-to-bits-result c = a-number (c .before .args .x) (c .if1 .taken)
 
 returns : tie.Need-returns
-returns c = search needs
+returns c = rw (c .if1 .taken) refl
 
 returns-2 : tie.Need-returns-2
-returns-2 c = search needs
+returns-2 c = rw (c .if1 .left) refl
 
 pub bits-spec : {M : Type 1} → statement M
 bits-spec = tie.close (tie.spec float-to-bits-result returns returns-2)

@@ -1,0 +1,70 @@
+-- The calls of the desk: the name of each, how many words its line has, and which of them says the bytes that it is lent.
+use Prim.Native.Nat.{ℕ, zero, suc}
+use mathlib.Core.List.{List, [], _∷_}
+use lib.ListN.{getD}
+use Rattle.desk_words.specs.Words.{placeOf}
+use Rattle.desk.specs.declared.calls.Call.{Call}
+use Rattle.desk.specs.declared.calls.Call.the-variants.{Check, Order, Count, Pairs, Entanglement, Free, Run}
+use Rattle.desk.specs.declared.calls.Call.the-variants.{Hands, Better, BetterCheck, Hold, Pack, Unpack, NoCall}
+
+-- The names, as bytes: check, order, count, pairs, entanglement, free, run,
+-- hands, better, better_check, hold, pack, unpack.
+unfoldable pub names : List (List ℕ)
+names =
+    (99 ∷ 104 ∷ 101 ∷ 99 ∷ 107 ∷ []) ∷
+    (111 ∷ 114 ∷ 100 ∷ 101 ∷ 114 ∷ []) ∷
+    (99 ∷ 111 ∷ 117 ∷ 110 ∷ 116 ∷ []) ∷
+    (112 ∷ 97 ∷ 105 ∷ 114 ∷ 115 ∷ []) ∷
+    (101 ∷ 110 ∷ 116 ∷ 97 ∷ 110 ∷ 103 ∷ 108 ∷ 101 ∷ 109 ∷ 101 ∷ 110 ∷ 116 ∷ []) ∷
+    (102 ∷ 114 ∷ 101 ∷ 101 ∷ []) ∷
+    (114 ∷ 117 ∷ 110 ∷ []) ∷
+    (104 ∷ 97 ∷ 110 ∷ 100 ∷ 115 ∷ []) ∷
+    (98 ∷ 101 ∷ 116 ∷ 116 ∷ 101 ∷ 114 ∷ []) ∷
+    (98 ∷ 101 ∷ 116 ∷ 116 ∷ 101 ∷ 114 ∷ 95 ∷ 99 ∷ 104 ∷ 101 ∷ 99 ∷ 107 ∷ []) ∷
+    (104 ∷ 111 ∷ 108 ∷ 100 ∷ []) ∷
+    (112 ∷ 97 ∷ 99 ∷ 107 ∷ []) ∷
+    (117 ∷ 110 ∷ 112 ∷ 97 ∷ 99 ∷ 107 ∷ []) ∷
+    []
+
+-- The calls in the order of their names.
+unfoldable pub calls : List Call
+calls = Check ∷ Order ∷ Count ∷ Pairs ∷ Entanglement ∷ Free ∷ Run ∷
+    Hands ∷ Better ∷ BetterCheck ∷ Hold ∷ Pack ∷ Unpack ∷ []
+
+-- The call of a name.
+unfoldable pub callNamed : List ℕ → Call
+callNamed name = getD calls (placeOf name names) NoCall
+
+-- How many words its line has, its name among them.
+unfoldable pub wordsOf : Call → ℕ
+wordsOf Check = 2
+wordsOf Order = 4
+wordsOf Count = 2
+wordsOf Pairs = 2
+wordsOf Entanglement = 2
+wordsOf Free = 3
+wordsOf Run = 3
+wordsOf Hands = 3
+wordsOf Better = 5
+wordsOf BetterCheck = 5
+wordsOf Hold = 3
+wordsOf Pack = 9
+wordsOf Unpack = 7
+wordsOf NoCall = 0
+
+-- Which of them says the bytes that it is lent.
+unfoldable pub lentBy : Call → ℕ
+lentBy Check = 1
+lentBy Order = 1
+lentBy Count = 1
+lentBy Pairs = 1
+lentBy Entanglement = 1
+lentBy Free = 1
+lentBy Run = 1
+lentBy Hands = 1
+lentBy Better = 1
+lentBy BetterCheck = 1
+lentBy Hold = 1
+lentBy Pack = 8
+lentBy Unpack = 1
+lentBy NoCall = 1

@@ -1,0 +1,77 @@
+// The calls, as they stand in the list of docs/DESK.md: their names, and how many words a line of each has.
+use desk_words::words::place;
+ghost use mathlib.Core.Path.{_≡_};
+ghost use Rattle.desk.specs.Calls.{callNamed, wordsOf, lentBy};
+
+pub enum Call {
+    Check,
+    Order,
+    Count,
+    Pairs,
+    Entanglement,
+    Free,
+    Run,
+    Hands,
+    Better,
+    BetterCheck,
+    Hold,
+    Pack,
+    Unpack,
+    NoCall,
+}
+
+// The call of a name.
+pub fn named(name: &[u8]) -> Call
+    ensures { λ r. ⌜ r ≡ callNamed (now (name .entry)) ⌝ }
+{
+    let names =
+        b"check order count pairs entanglement free run hands better better_check hold pack unpack";
+    match place(names, name) {
+        0 => Call::Check,
+        1 => Call::Order,
+        2 => Call::Count,
+        3 => Call::Pairs,
+        4 => Call::Entanglement,
+        5 => Call::Free,
+        6 => Call::Run,
+        7 => Call::Hands,
+        8 => Call::Better,
+        9 => Call::BetterCheck,
+        10 => Call::Hold,
+        11 => Call::Pack,
+        12 => Call::Unpack,
+        _ => Call::NoCall,
+    }
+}
+
+// How many words a line of a call has, its name among them.
+pub fn words(call: Call) -> usize
+    ensures { λ r. ⌜ r ≡ wordsOf call ⌝ }
+{
+    match call {
+        Call::Check => 2,
+        Call::Order => 4,
+        Call::Count => 2,
+        Call::Pairs => 2,
+        Call::Entanglement => 2,
+        Call::Free => 3,
+        Call::Run => 3,
+        Call::Hands => 3,
+        Call::Better => 5,
+        Call::BetterCheck => 5,
+        Call::Hold => 3,
+        Call::Pack => 9,
+        Call::Unpack => 7,
+        Call::NoCall => 0,
+    }
+}
+
+// Which word of a line says the bytes that the call is lent: RECORD, or pack's OUT.
+pub fn lent(call: Call) -> usize
+    ensures { λ r. ⌜ r ≡ lentBy call ⌝ }
+{
+    match call {
+        Call::Pack => 8,
+        _ => 1,
+    }
+}

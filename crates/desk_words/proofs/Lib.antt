@@ -1,0 +1,7 @@
+mod Parting
+mod Reading
+mod Filling
+mod Pairing
+mod Listing
+mod Handing
+mod Spelt
