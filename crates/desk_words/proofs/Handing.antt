@@ -41,7 +41,8 @@ module _ (word : List ℕ) (to : ℕ) (e : to ≡ 0 + upToStop 58 word) where
   no-colon h = rw (le-ltb (upToStop 58 word) (length word) (omega arith))
 
   module _ (h : to < length word) where
-    by-parts : handSaid word ≡ handNumber (numberIn 65535 (take to word)) (numberIn 65535 (take (length word - (to + 1)) (drop (to + 1) word)))
+    by-parts : handSaid word ≡
+        handNumber (numberIn 65535 (take to word)) (numberIn 65535 (take (length word - (to + 1)) (drop (to + 1) word)))
     unfolding handSaid behind
     by-parts =
         let here : upToStop 58 word ≡ to = omega arith in
