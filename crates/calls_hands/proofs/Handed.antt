@@ -5,21 +5,20 @@ use mathlib.Core.Path.{_≡_, refl, sym, ap, _∙_}
 use mathlib.Core.Bool.{Bool, true, false, false≢true}
 use mathlib.Core.List.{List, [], _∷_}
 use native.Mathlib.Omega.{arith}
-use borrow.Author.Tests.{leb-true, ltb-true, ltb-false}
-use lib.Dec.{leb, ltb}
+use borrow.Author.Tests.{ltb-true, ltb-false}
+use lib.Dec.{ltb}
 use lib.ListN.{length, getD, set}
 use lib.Seq.{getD-set-same, set-getD, set-out, set-set}
-use Rattle.tanglegram.specs.Lists.{Each}
 use Rattle.tanglegram.specs.Order.{flip, byte, turnRow}
 use Rattle.tanglegram.specs.Run.{Side, left, right}
 use Rattle.tanglegram.specs.Table.{Layouts, layout, put}
-use Rattle.tanglegram.proofs.Lists.{each-map}
+use Rattle.tanglegram.proofs.Lists.{each-getD}
 use Rattle.record_fields.specs.Fields.{holdOf, sizeOf, parts}
 use Rattle.record_fields.specs.Refusals.{isLayout, refusal}
 use Rattle.record_fields.specs.Meaning.{layoutsOf, relaid}
 use Rattle.record_fields.proofs.Acceptance.{accepted-parts, accepted-sized, none-both}
 use Rattle.record_fields.proofs.Meaning.{relaid-same}
-use Rattle.record_fields.proofs.Tests.{all-each}
+use Rattle.record_fields.proofs.Tests.{layout-small}
 use Rattle.record_arrays.specs.Sides.{holds, sideOf}
 use Rattle.calls_hands.specs.Refusals.{Hand, handRefusal, entriesRefusal, handsRefusal}
 use Rattle.calls_hands.specs.Calls.{handed}
@@ -70,17 +69,11 @@ unfolding handed
 twice-handed at h hs small = ap (λ l. handed l hs) (put-twice (sideOf (h .side)) at (h .row) small)
 
 -- an accepted record's bytes are good
-each-byte : (xs : List ℕ) (k : ℕ) → Each (λ x. x ≤ 1) xs → getD xs k 0 ≤ 1
-each-byte [] k e = omega arith
-each-byte (x ∷ xs) zero e = e .0
-each-byte (x ∷ xs) (suc k) e = each-byte xs k (e .1)
-
 pub byte-small : (s : List ℕ) → refusal s ≡ 0 → (side : Side) (row : ℕ) → byte (layout (layoutsOf s) side) row ≤ 1
-unfolding isLayout
 byte-small s a side row = by side
   where
     good : (lay : List ℕ) → isLayout lay ≡ true → byte lay row ≤ 1
-    good lay e = each-byte lay (pred row) (each-map lay (λ x h. leb-true x 1 h) (all-each (λ x. leb x 1) lay e))
+    good lay e = each-getD (λ x. x ≤ 1) lay (omega arith) (layout-small lay e) (pred row)
 
     by : (x : Side) → byte (layout (layoutsOf s) x) row ≤ 1
     by left = good (parts s .left-layout) (accepted-parts s a .left-bytes)

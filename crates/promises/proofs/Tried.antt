@@ -11,29 +11,34 @@ use Rattle.tanglegram.specs.Order.{order, write}
 use Rattle.tanglegram.specs.Crossings.{over, across, pairs, count}
 use Rattle.tanglegram.specs.Freeing.{choose, freed}
 use Rattle.tanglegram.specs.Run.{left, after}
-use Rattle.tanglegram.specs.Examples.{case2, gainsInTurn2}
+use Rattle.tanglegram.specs.Examples.{gainsInTurn2}
 use Rattle.work_tree_rule.specs.Rule.{among, first, badRow}
 use Rattle.record_fields.specs.Fields.{numbers, split, partsOf, packed}
 use Rattle.record_fields.specs.Refusals.{all, isMark, isHold, noSize, breaksRule, oneToOne, isLayout, contentsRefusal, headingRefusal}
 use Rattle.record_fields.specs.Refusals.{refusal}
 use Rattle.record_fields.specs.Meaning.{relaid}
+use Rattle.record_arrays.specs.Shown.{shownCount}
 use Rattle.calls_better.specs.Refusals.{betterRefusal}
 use Rattle.calls_better.specs.Calls.{betterWhich}
 use Rattle.promises.specs.Demand2.{FreeKeeps}
 use Rattle.promises.specs.Demand3.{countAfter}
 use Rattle.promises.specs.Examples.{recordOf}
-use Rattle.promises.specs.Tried.{byte2, Tried}
+use Rattle.promises.specs.Tried.{tied, byte2, Tried}
 
 -- the record is accepted, and with the byte 2 it is refused
-refusals : (refusal (recordOf case2) ≡ 0) × (refusal byte2 ≡ 10)
+refusals : (refusal tied ≡ 0) × (refusal byte2 ≡ 10)
 unfolding range used among first badRow numbers split partsOf packed relaid all isMark isHold noSize breaksRule oneToOne isLayout
     contentsRefusal headingRefusal refusal
 refusals = (refl, refl)
 
--- row 1 is under the left root's lower child's lower child
-row1 : FreeKeeps (recordOf case2) left byte2 → (_≡_ {A = ℕ} 2 1) ⊎ (_≡_ {A = ℕ} 2 0)
+-- the left root's byte
+root : FreeKeeps tied left byte2 → (_≡_ {A = ℕ} 2 1) ⊎ (_≡_ {A = ℕ} 2 0)
 unfolding deep object numbers split partsOf packed relaid range
-row1 k = k .turned-or-kept .2 .2 .0
+root k = k .turned-or-kept .0
+
+same : shownCount byte2 ≡ shownCount tied
+unfolding order leaves deep object count place range over across pairs used numbers split partsOf packed relaid
+same = refl
 
 counts : (countAfter (recordOf gainsInTurn2) 1 ≡ 1) × (countAfter (recordOf gainsInTurn2) 2 ≡ 0)
 unfolding order write leaves deep object count place range over across pairs choose freed after used numbers split partsOf packed
@@ -43,7 +48,8 @@ pub tried : Tried
 unfolding betterWhich
 tried = record {
   no-record-afterwards = λ k. let again = k .same-trees .accepted-again (refusals .0) in omega (arith, again, refusals .1);
-  byte-neither-turned-nor-kept = λ k. ⊎-elim (λ e. omega (arith, e)) (λ e. omega (arith, e)) (row1 k);
+  same-count = same;
+  byte-neither-turned-nor-kept = λ k. ⊎-elim (λ e. omega (arith, e)) (λ e. omega (arith, e)) (root k);
   settled-after-a-gain = λ answer s′ t e k.
       let s = recordOf gainsInTurn2 in
       let same = ap (countAfter s) (sym t) ∙ k .last-gained-nothing e ∙ ap (λ j. countAfter s (pred j)) t in

@@ -4,8 +4,9 @@ use mathlib.Core.Path.{_≡_}
 use mathlib.Core.Logic.{_≢_}
 use mathlib.Core.List.{List, [], _∷_}
 use Rattle.tanglegram.specs.Run.{left}
-use Rattle.tanglegram.specs.Examples.{bytesOf, case2, gainsInTurn2, oneLeaf}
+use Rattle.tanglegram.specs.Examples.{bytesOf, rootsTie, gainsInTurn2, oneLeaf}
 use Rattle.record_fields.specs.Meaning.{relaid}
+use Rattle.record_arrays.specs.Shown.{shownCount}
 use Rattle.calls_turns.specs.declared.answers.Ran.{Ran}
 use Rattle.calls_better.specs.Refusals.{betterRefusal}
 use Rattle.calls_better.specs.Calls.{betterWhich, Address, Betters}
@@ -14,15 +15,20 @@ use Rattle.promises.specs.Demand2.{FreeKeeps}
 use Rattle.promises.specs.Demand3.{RunKeeps}
 use Rattle.promises.specs.Examples.{recordOf}
 
--- Example 3's record freed on the left, but for row 1, which nothing is gained by: its byte becomes 2, which is read as turned.
+-- Example 5, whose roots tie, and the same with the left root's byte 2: not the byte that turns it over, though read as turned. The count
+-- is the same, so that only what is said of the byte excludes it.
+abbrev pub tied : List ℕ
+tied = recordOf (rootsTie (bytesOf (0 ∷ 0 ∷ []) (0 ∷ 0 ∷ [])))
+
 abbrev pub byte2 : List ℕ
-byte2 = relaid (recordOf case2) (bytesOf (2 ∷ 1 ∷ 1 ∷ []) (0 ∷ 0 ∷ 0 ∷ []))
+byte2 = relaid tied (bytesOf (0 ∷ 2 ∷ []) (0 ∷ 0 ∷ []))
 
 pub record Tried : Type 0 where
   -- A call that makes a record one that is refused.
-  pub no-record-afterwards : Keeps (recordOf case2) byte2 → ⊥
-  -- Freeing that changes the byte of a row and does not turn it over.
-  pub byte-neither-turned-nor-kept : FreeKeeps (recordOf case2) left byte2 → ⊥
+  pub no-record-afterwards : Keeps tied byte2 → ⊥
+  -- Freeing after which a row's byte is neither the other one nor the same, at the same count.
+  pub same-count : shownCount byte2 ≡ shownCount tied
+  pub byte-neither-turned-nor-kept : FreeKeeps tied left byte2 → ⊥
   -- A run of example 6 that stops at turn 2, which gained, and calls it settled.
   pub settled-after-a-gain : (answer : Ran) (s′ : List ℕ) → answer .turns ≡ 2 → answer .settled ≡ 1 →
       RunKeeps (recordOf gainsInTurn2) 130818 answer s′ → ⊥

@@ -134,7 +134,7 @@ case2Shown = record {
 }
 
 -- Examples 5 and 10: both roots tie, and nothing turns; with other layouts on both sides at once nothing crosses.
-abbrev rootsTie : Layouts → Case
+abbrev pub rootsTie : Layouts → Case
 rootsTie s = record {
   size = 3;
   left-rows = 1 ∷ 2 ∷ 4 ∷ 3 ∷ [];

@@ -1,4 +1,5 @@
-// One row of a side that is freed: its own crossings by the far places of its leaves' links, and whether it is turned over.
+// One row of a side that is freed: its own crossings by the far places of its leaves' links, and whether it is turned
+// over.
 ghost use mathlib.Core.Path.{_≡_};
 ghost use Prim.Native.Nat.{_+_, _*_, _≤_};
 ghost use lib.ListN.{length};
