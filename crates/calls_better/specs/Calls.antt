@@ -9,7 +9,8 @@ use Rattle.tanglegram.specs.Crossings.{count}
 use Rattle.tanglegram.specs.Run.{Side, left, right}
 use Rattle.record_fields.specs.declared.refusal.Refusal.{Refusal}
 use Rattle.record_fields.specs.Fields.{sizeOf, parts}
-use Rattle.record_fields.specs.Refused.{refused, accepted, orZero}
+use Rattle.record_fields.specs.Refused.{accepted, orZero}
+use Rattle.record_fields.specs.Told.{toldOf}
 use Rattle.record_arrays.specs.Sides.{sideOf}
 use Rattle.calls_better.specs.declared.answers.Compared.{Compared}
 use Rattle.calls_better.specs.Refusals.{betterRefusal}
@@ -49,16 +50,12 @@ pub record Betters (s : List ℕ) (side : ℕ) (first second : List ℕ) (first-
   pub answers : part ≡ betterPart s side first second
   pub begins : part-at ≡ cond (eqb (betterWhich s side first second) 2) second-at first-at
 
--- A comparison with a refusal's number.
-abbrev pub compareTold : ℕ → ℕ → ℕ → Compared
-compareTold k w l = record { refusal = refused k; which = w; length = l }
-
 pub record Compares (s : List ℕ) (side : ℕ) (first second : List ℕ) (answer : Compared) : Type 0 where
   pub answers : answer ≡ record {
-    refusal = refused (betterRefusal s side first second);
+    refusal = toldOf s (betterRefusal s side first second);
     which = betterWhich s side first second;
     length = orZero (betterRefusal s side first second) (sizeOf s);
   }
 
 pub record BetterChecks (s : List ℕ) (side : ℕ) (first second : List ℕ) (answer : Refusal) : Type 0 where
-  pub answers : answer ≡ refused (betterRefusal s side first second)
+  pub answers : answer ≡ toldOf s (betterRefusal s side first second)

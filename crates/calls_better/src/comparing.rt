@@ -7,7 +7,7 @@ ghost use Rattle.calls_better.specs.Calls.{BetterChecks, Betters, Compar
 ghost use Rattle.calls_better.specs.Refusals.{betterRefusal, isOrder};
 ghost use Rattle.record_arrays.specs.Sides.{RecordOver, isSide, sideOf};
 use crate::answers::Compared;
-use crate::answers::tell_compared;
+use record::told;
 use record_arrays::is_side;
 use record_arrays::rows_at;
 use record_arrays::side_order;
@@ -79,7 +79,7 @@ fn comparing_number(s: &[u8], side: u16, first: &[u16], second: &[u16]) -> u16
 pub fn better_check(s: &[u8], side: u16, first: &[u16], second: &[u16]) -> Refusal
     ensures { λ r. ⌜ BetterChecks (now (s .entry)) side (now (first .entry)) (now (second .entry)) r ⌝ }
 {
-    refused(comparing_number(s, side, first, second))
+    told(s, comparing_number(s, side, first, second))
 }
 
 // Which of two lent orders crosses less, the first one on a tie, and how many of its entries count; or the refusal.
@@ -88,15 +88,27 @@ pub fn compare(s: &[u8], side: u16, first: &[u16], second: &[u16]) -> Compared
 {
     let k = comparing_number(s, side, first, second);
     if k != 0 {
-        return tell_compared(k, 0, 0);
+        return Compared {
+            refusal: told(s, k),
+            which: 0,
+            length: 0,
+        };
     }
     let n = record::size_of(s);
     let a = count_with(s, n, side, first);
     let b = count_with(s, n, side, second);
     if b < a {
-        return tell_compared(0, 2, n);
+        return Compared {
+            refusal: refused(0),
+            which: 2,
+            length: n,
+        };
     }
-    tell_compared(0, 1, n)
+    Compared {
+        refusal: refused(0),
+        which: 1,
+        length: n,
+    }
 }
 
 // The first n entries of the lent order that crosses less, of the first one on a tie; an empty part of the first where

@@ -14,6 +14,7 @@ ghost use Rattle.record_arrays.specs.Sides.{RecordOver};
 use calls_hands::hand_number;
 use calls_hands::list_number;
 use calls_hands::turn_hand;
+use record::told;
 use record_fields::fields::hold_of;
 use record_fields::fields::size_of;
 use record_fields::refusal::Refusal;
@@ -80,7 +81,7 @@ pub fn hands_named(s: &mut [u8], list: &[HandEntry]) -> Refusal
 {
     let k = test_entries(s, list);
     if k != 0 {
-        return refused(k);
+        return told(s, k);
     }
     let mut i = 0;
     while i < list.len() {

@@ -1,7 +1,7 @@
 -- Hand lists, entry after entry: the refusal of an entry and of a list, and the record after an entry and after a list. A list's
 -- entries may be lent in any form: f says which hand an entry is.
 use Prim.Native.Nat.{ℕ, zero, suc, _+_, _-_, _≤_, _<_}
-use mathlib.Core.Path.{_≡_, refl, sym, ap, _∙_}
+use mathlib.Core.Path.{_≡_, refl, sym, ap, _∙_, subst}
 use mathlib.Core.Logic.{_≢_}
 use mathlib.Core.Bool.{Bool, true, false, cond, not, _||_}
 use mathlib.Core.List.{List, [], _∷_, map}
@@ -13,12 +13,14 @@ use lib.ListN.{length, getD, drop, length-map, drop-of-length-le}
 use lib.Seq.{drop-cons}
 use Rattle.tanglegram.proofs.Bools.{or-neither}
 use Rattle.record_fields.specs.declared.refusal.Refusal.{Refusal}
-use Rattle.record_fields.specs.Fields.{mostHands, holdOf, sizeOf}
+use Rattle.record_fields.specs.Fields.{mostHands, holdOf, sizeOf, parts}
 use Rattle.record_fields.specs.Refusals.{orElse, refusal}
 use Rattle.record_fields.specs.Refused.{refused}
+use Rattle.record_fields.specs.Told.{toldOf, OwnRow}
 use Rattle.record_fields.specs.Meaning.{layoutsOf, relaid}
 use Rattle.record_fields.proofs.Acceptance.{else-first, else-second, none-both}
 use Rattle.record_fields.proofs.Heading.{none-first, not-no}
+use Rattle.record_fields.proofs.Told.{Alone, told-alone, told-none, each-else, alone-when, alone-0, own-when, own-then}
 use Rattle.record_arrays.specs.Sides.{isSide, sideOf, holds}
 use Rattle.calls_hands.specs.Refusals.{Hand, hand, handRefusal, entriesRefusal, handsRefusal}
 use Rattle.calls_hands.specs.Calls.{handed, Hands}
@@ -118,6 +120,18 @@ module _ {A : Type 0} (f : A → Hand) (d : A) (list : List A) where
     unfolding entriesRefusal
     found-end i {k} before h = sym (nothing-after k) ∙ ap (orElse k) (sym (ap (entriesRefusal hold n) (rest-none i h))) ∙ before
 
+-- no row is told with an entry's refusal, nor with that of the entries
+hand-alone : (hold n : ℕ) (h : Hand) → Alone (handRefusal hold n h)
+unfolding handRefusal
+hand-alone hold n h =
+    alone-when (not (isSide (h .side))) 13 refl (alone-when (eqb (h .row) 0 || ltb (n - 1) (h .row)) 15 refl
+    (alone-when (holds hold (sideOf (h .side))) 11 refl alone-0))
+
+entries-alone : (hold n : ℕ) (hands : List Hand) → Alone (entriesRefusal hold n hands)
+unfolding entriesRefusal
+entries-alone hold n [] = alone-0
+entries-alone hold n (h ∷ hands) = each-else Alone (handRefusal hold n h) (hand-alone hold n h) (entries-alone hold n hands)
+
 -- ---- from what a call found to its statement
 
 -- where a list is accepted
@@ -130,12 +144,17 @@ handing-accepted s hands e =
     (ltb-false mostHands (length hands) (t .0), u .0, u .1)
 
 module _ (s : List ℕ) (hands : List Hand) where
-  pub hands-refused : {k : ℕ} {answer : Refusal} → k ≡ handsRefusal s hands → k ≢ 0 → answer ≡ refused k → Hands s hands answer s
-  hands-refused {k} e h r = record { answers = r ∙ ap refused e; afterwards = rw (← e, ne-eqb k 0 h) refl }
+  -- a row that is told is the record's
+  pub hands-own : {k : ℕ} → k ≡ handsRefusal s hands → OwnRow s k
+  unfolding handsRefusal
+  hands-own e = rw e (own-when s (ltb mostHands (length hands)) 17 refl (own-then s (entries-alone (holdOf s) (sizeOf s) hands)))
+
+  pub hands-refused : {k : ℕ} {answer : Refusal} → k ≡ handsRefusal s hands → k ≢ 0 → answer ≡ toldOf s k → Hands s hands answer s
+  hands-refused {k} e h r = record { answers = r ∙ ap (toldOf s) e; afterwards = rw (← e, ne-eqb k 0 h) refl }
 
   pub hands-accepted : {answer : Refusal} {after : List ℕ} → handsRefusal s hands ≡ 0 → answer ≡ refused 0 →
       after ≡ relaid s (handed (layoutsOf s) hands) → Hands s hands answer after
-  hands-accepted a r e = record { answers = r ∙ ap refused (sym a); afterwards = rw a e }
+  hands-accepted a r e = record { answers = r ∙ told-none (parts s) a; afterwards = rw a e }
 
 -- the number of entries and the record are tested before the entries
 module _ (s : List ℕ) {A : Type 0} (f : A → Hand) (list : List A) where
@@ -162,7 +181,10 @@ module _ (s : List ℕ) {A : Type 0} (f : A → Hand) (list : List A) where
     pub first-number : k ≢ 0 → k ≡ handsRefusal s (map f list)
     first-number h = e ∙ sym (else-first first second (λ z. h (e ∙ z))) ∙ handing-parts
 
-    pub first-refused : {answer : Refusal} → k ≢ 0 → answer ≡ refused k → Hands s (map f list) answer s
+    pub first-own : k ≢ 0 → OwnRow s k
+    first-own h = hands-own s (map f list) (first-number h)
+
+    pub first-refused : {answer : Refusal} → k ≢ 0 → answer ≡ toldOf s k → Hands s (map f list) answer s
     first-refused h r = hands-refused s (map f list) (first-number h) h r
 
     module _ (a : k ≡ 0) {b n : ℕ} (size : n ≡ sizeOf s) (found : b ≡ entriesRefusal (holdOf s) n (map f list)) where
@@ -171,7 +193,9 @@ module _ (s : List ℕ) {A : Type 0} (f : A → Hand) (list : List A) where
           found ∙ ap (λ m. entriesRefusal (holdOf s) m (map f list)) size ∙ sym (else-second first second (sym e ∙ a)) ∙ handing-parts
 
       pub second-refused : {answer : Refusal} → b ≢ 0 → answer ≡ refused b → Hands s (map f list) answer s
-      second-refused h r = hands-refused s (map f list) second-number h r
+      second-refused h r =
+          hands-refused s (map f list) second-number h
+          (r ∙ told-alone (parts s) (subst Alone (sym found) (entries-alone (holdOf s) n (map f list))))
 
       pub second-accepted : {answer : Refusal} {after : List ℕ} → b ≡ 0 → answer ≡ refused 0 →
           after ≡ relaid s (handed (layoutsOf s) (map f list)) → Hands s (map f list) answer after

@@ -10,6 +10,7 @@ ghost use Rattle.record_fields.specs.Meaning.{layoutsOf, relaid};
 ghost use Rattle.calls_hands.specs.Calls.{handed, Hands};
 ghost use Rattle.calls_hands.specs.Refusals.{handRefusal, entriesRefusal, hand, handOf};
 ghost use Rattle.record_arrays.specs.Sides.{RecordOver};
+use record::told;
 use record_arrays::is_held;
 use record_arrays::is_side;
 use record_arrays::layout_at;
@@ -116,7 +117,7 @@ pub fn hands(s: &mut [u8], list: &[u32]) -> Refusal
 {
     let k = list_number(s, list.len());
     if k != 0 {
-        return refused(k);
+        return told(s, k);
     }
     let n = size_of(s);
     let b = first_bad(hold_of(s), n, list);

@@ -2,7 +2,7 @@
 use Prim.Native.Nat.{ℕ, _≤_, _<_}
 use mathlib.Core.Path.{_≡_, refl, sym, ap, _∙_}
 use mathlib.Core.Logic.{_≢_}
-use mathlib.Core.Bool.{true, false}
+use mathlib.Core.Bool.{true, false, not}
 use mathlib.Core.List.{List, _++_}
 use native.Mathlib.Omega.{arith}
 use borrow.Author.Tests.{eq-eqb, ne-eqb, lt-ltb, le-ltb, ltb-false}
@@ -15,32 +15,34 @@ use Rattle.tanglegram.proofs.Lists.{all-length}
 use Rattle.record_fields.specs.Fields.{sizeOf, parts}
 use Rattle.record_fields.specs.Refusals.{refusal}
 use Rattle.record_fields.specs.Refused.{refused}
+use Rattle.record_fields.specs.Told.{toldOf, OwnRow}
 use Rattle.record_fields.proofs.Acceptance.{else-first, none-both}
 use Rattle.record_fields.proofs.Heading.{none-first, not-no}
 use Rattle.record_fields.proofs.Refused.{lent-refused, lent-accepted}
+use Rattle.record_fields.proofs.Told.{told-none, alone-when, alone-0, own-when, own-then}
 use Rattle.record_fields.proofs.Stores.{sets-front}
 use Rattle.calls_show.specs.declared.answers.Entangled.the-variants.{Ratio, NoRatio, Refused}
 use Rattle.record_arrays.specs.Sides.{isSide, sideOf}
 use Rattle.calls_show.specs.Refusals.{orderRefusal}
 use Rattle.record_arrays.specs.Shown.{shownOrder, shownCount}
 use Rattle.record_fields.specs.declared.refusal.Refusal.{Refusal}
-use Rattle.calls_show.specs.declared.answers.Counted.{Counted}
-use Rattle.calls_show.specs.Calls.{Orders, countTold, Counts, ratio, entangled, Entangles}
+use Rattle.calls_show.specs.Calls.{Orders, Counts, ratio, entangled, Entangles}
 use Rattle.record_arrays.proofs.AsItStands.{side-perm, over-n}
 use Rattle.record_arrays.proofs.Apart.{order-taken}
 
 module _ (s : List ℕ) where
   -- ---- counts
 
-  pub count-refused : {k : ℕ} {answer : Counted} → answer ≡ countTold k 0 → k ≡ refusal s → k ≢ 0 → Counts s answer
-  count-refused {k} t e h = record { answers = t ∙ rw (← e, ne-eqb k 0 h) refl }
+  pub count-refused : {k : ℕ} {told : Refusal} → told ≡ toldOf s k → k ≡ refusal s → k ≢ 0 → Counts s (record { refusal = told; count = 0 })
+  count-refused {k} t e h = record { answers = rw (t, ← e, ne-eqb k 0 h) refl }
 
-  pub count-accepted : {r : ℕ} {answer : Counted} → answer ≡ countTold 0 r → refusal s ≡ 0 → r ≡ shownCount s → Counts s answer
-  count-accepted t a e = record { answers = t ∙ rw (a, e) refl }
+  pub count-accepted : {r : ℕ} {told : Refusal} → told ≡ refused 0 → refusal s ≡ 0 → r ≡ shownCount s →
+      Counts s (record { refusal = told; count = r })
+  count-accepted t a e = record { answers = rw (t ∙ told-none (parts s) a, a, e) refl }
 
   -- ---- entanglement
 
-  pub entangled-refused : {k : ℕ} {told : Refusal} → told ≡ refused k → k ≡ refusal s → k ≢ 0 → Entangles s (Refused told)
+  pub entangled-refused : {k : ℕ} {told : Refusal} → told ≡ toldOf s k → k ≡ refusal s → k ≢ 0 → Entangles s (Refused told)
   unfolding entangled
   entangled-refused {k} t e h = record { answers = ap Refused t ∙ rw (← e, ne-eqb k 0 h) refl }
 
@@ -84,8 +86,13 @@ module _ (s : List ℕ) (side : ℕ) (out : List ℕ) where
       let v = none-first (ltb (length out) (sizeOf s)) 14 0 (omega arith) (u .1) in
       (not-no _ (t .0), u .0, ltb-false _ _ (v .0))
 
-  pub order-refused : {k : ℕ} {told : Refusal} → told ≡ refused k → k ≡ orderRefusal s side out → k ≢ 0 → Orders s side out told out
-  order-refused {k} t e h = record { answers = t ∙ ap refused e; afterwards = rw (← e) (lent-refused k (shownOrder s (sideOf side)) out h) }
+  -- a row that is told is the record's
+  pub order-own : {k : ℕ} → k ≡ orderRefusal s side out → OwnRow s k
+  unfolding orderRefusal
+  order-own e = rw e (own-when s (not (isSide side)) 13 refl (own-then s (alone-when (ltb (length out) (sizeOf s)) 14 refl alone-0)))
+
+  pub order-refused : {k : ℕ} {told : Refusal} → told ≡ toldOf s k → k ≡ orderRefusal s side out → k ≢ 0 → Orders s side out told out
+  order-refused {k} t e h = record { answers = t ∙ ap (toldOf s) e; afterwards = rw (← e) (lent-refused k (shownOrder s (sideOf side)) out h) }
 
   pub order-accepted : (n : ℕ) (A found after : List ℕ) {told : Refusal} → told ≡ refused 0 → orderRefusal s side out ≡ 0 → n ≡ sizeOf s →
       A ≡ shownOrder s (sideOf side) ++ drop n found → after ≡ sets out 0 (take n A) → Orders s side out told after
@@ -95,7 +102,7 @@ module _ (s : List ℕ) (side : ℕ) (out : List ℕ) where
       let taken = order-taken s n g (sideOf side) A found h in
       let long = all-length n _ (side-perm s n g (sideOf side)) in
       record {
-        answers = t ∙ ap refused (sym a);
+        answers = t ∙ told-none (parts s) a;
         afterwards =
             w ∙ ap (sets out 0) taken
             ∙ sets-front out (shownOrder s (sideOf side)) (omega (arith, good .2, long))

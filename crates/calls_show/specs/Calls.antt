@@ -12,6 +12,7 @@ use Rattle.record_fields.specs.declared.refusal.Refusal.{Refusal}
 use Rattle.record_fields.specs.Fields.{sizeOf}
 use Rattle.record_fields.specs.Refusals.{refusal}
 use Rattle.record_fields.specs.Refused.{refused, accepted, lent, orZero}
+use Rattle.record_fields.specs.Told.{toldOf}
 use Rattle.record_arrays.specs.Sides.{sideOf}
 use Rattle.record_arrays.specs.Shown.{shownOrder, shownCount, shownDisplacement}
 use Rattle.calls_show.specs.declared.answers.Counted.{Counted}
@@ -22,15 +23,11 @@ use Rattle.calls_show.specs.Refusals.{orderRefusal}
 -- ---- order, count, pairs
 
 pub record Orders (s : List ℕ) (side : ℕ) (out : List ℕ) (answer : Refusal) (out′ : List ℕ) : Type 0 where
-  pub answers : answer ≡ refused (orderRefusal s side out)
+  pub answers : answer ≡ toldOf s (orderRefusal s side out)
   pub afterwards : out′ ≡ lent (orderRefusal s side out) (shownOrder s (sideOf side)) out
 
--- A count with a refusal's number.
-abbrev pub countTold : ℕ → ℕ → Counted
-countTold k c = record { refusal = refused k; count = c }
-
 pub record Counts (s : List ℕ) (answer : Counted) : Type 0 where
-  pub answers : answer ≡ record { refusal = refused (refusal s); count = orZero (refusal s) (shownCount s) }
+  pub answers : answer ≡ record { refusal = toldOf s (refusal s); count = orZero (refusal s) (shownCount s) }
 
 -- ---- entanglement
 
@@ -43,13 +40,13 @@ entangled s =
     cond (accepted (refusal s))
     (cond (eqb (sizeOf s) 1) NoRatio
     (Ratio (shownDisplacement s) (worst (sizeOf s)) (ratio (shownDisplacement s) (worst (sizeOf s)))))
-    (Refused (refused (refusal s)))
+    (Refused (toldOf s (refusal s)))
 
--- The number, D, W and the ratio or none, for each case.
-abbrev pub entangledNumber : Entangled → ℕ
-entangledNumber (Ratio d w x) = 0
-entangledNumber NoRatio = 0
-entangledNumber (Refused r) = r .number
+-- The refusal, D, W and the ratio or none, for each case.
+abbrev pub entangledRefusal : Entangled → Refusal
+entangledRefusal (Ratio d w x) = refused 0
+entangledRefusal NoRatio = refused 0
+entangledRefusal (Refused r) = r
 
 abbrev pub displacedIn : Entangled → ℕ
 displacedIn (Ratio d w x) = d

@@ -4,10 +4,10 @@ ghost use Rattle.calls_show.specs.Calls.{Counts, Entangles, Orders};
 ghost use Rattle.calls_show.specs.Refusals.{orderRefusal};
 use crate::answers::Counted;
 use crate::answers::Entangled;
-use crate::answers::tell_count;
 use crate::counting::record_displaced;
 use crate::counting::record_paired;
 use crate::counting::record_seen;
+use record::told;
 use record_arrays::is_side;
 use record_arrays::side_order;
 use record_fields::copying::copied;
@@ -39,7 +39,7 @@ pub fn order(s: &[u8], side: u16, out: &mut [u16]) -> Refusal
 {
     let k = ordering_number(s, side, out);
     if k != 0 {
-        return refused(k);
+        return told(s, k);
     }
     let n = record::size_of(s);
     let mut made = [0u16; 512];
@@ -54,9 +54,15 @@ pub fn count(s: &[u8]) -> Counted
 {
     let k = record::refusal_number(s);
     if k != 0 {
-        return tell_count(k, 0);
+        return Counted {
+            refusal: told(s, k),
+            count: 0,
+        };
     }
-    tell_count(0, record_seen(s, record::size_of(s)))
+    Counted {
+        refusal: refused(0),
+        count: record_seen(s, record::size_of(s)),
+    }
 }
 
 // The same, pair by pair.
@@ -65,9 +71,15 @@ pub fn pairs(s: &[u8]) -> Counted
 {
     let k = record::refusal_number(s);
     if k != 0 {
-        return tell_count(k, 0);
+        return Counted {
+            refusal: told(s, k),
+            count: 0,
+        };
     }
-    tell_count(0, record_paired(s, record::size_of(s)))
+    Counted {
+        refusal: refused(0),
+        count: record_paired(s, record::size_of(s)),
+    }
 }
 
 // The entanglement of any bytes: D, W and their ratio, or no ratio for a single leaf, or the refusal.
@@ -76,7 +88,7 @@ pub fn entanglement(s: &[u8]) -> Entangled
 {
     let k = record::refusal_number(s);
     if k != 0 {
-        return Entangled::Refused(refused(k));
+        return Entangled::Refused(told(s, k));
     }
     let n = record::size_of(s);
     if n == 1 {

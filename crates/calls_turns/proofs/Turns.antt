@@ -2,23 +2,25 @@
 use Prim.Native.Nat.{ℕ, zero, suc, _≤_, _<_}
 use mathlib.Core.Path.{_≡_, refl, sym, ap, _∙_}
 use mathlib.Core.Logic.{_≢_}
-use mathlib.Core.Bool.{true, false, true≢false}
+use mathlib.Core.Bool.{true, false, not, true≢false}
 use mathlib.Core.List.{List}
 use native.Mathlib.Omega.{arith}
 use borrow.Author.Tests.{eq-eqb, ne-eqb, lt-ltb, le-ltb}
 use Rattle.tanglegram.specs.Run.{left, right}
 use Rattle.tanglegram.specs.Table.{crossings}
-use Rattle.record_fields.specs.Fields.{holdOf}
+use Rattle.record_fields.specs.Fields.{holdOf, parts}
 use Rattle.record_fields.specs.Refusals.{refusal}
 use Rattle.record_fields.specs.Meaning.{tableOf, layoutsOf, relaid}
 use Rattle.record_fields.proofs.Acceptance.{else-first, none-both}
 use Rattle.record_fields.proofs.Heading.{none-first, not-no}
 use Rattle.record_arrays.specs.Sides.{isSide, sideOf, holds, RecordOver}
-use Rattle.calls_turns.specs.declared.answers.Freed.{Freed}
-use Rattle.calls_turns.specs.declared.answers.Ran.{Ran}
+use Rattle.record_fields.specs.declared.refusal.Refusal.{Refusal}
+use Rattle.record_fields.specs.Refused.{refused}
+use Rattle.record_fields.specs.Told.{toldOf, OwnRow}
+use Rattle.record_fields.proofs.Told.{told-none, alone-when, alone-0, own-when, own-then}
 use Rattle.calls_turns.specs.Refusals.{freeRefusal, noAllowance, runRefusal}
 use Rattle.record_arrays.specs.Shown.{shownCount}
-use Rattle.calls_turns.specs.Calls.{freedLayouts, freeTold, Frees, runTold, Runs}
+use Rattle.calls_turns.specs.Calls.{freedLayouts, Frees, Runs}
 use Rattle.record_turns.specs.Worked.{RecordFreed, RecordRan}
 use Rattle.calls_turns.proofs.Freed.{freed-table, freed-layouts}
 
@@ -52,8 +54,14 @@ module _ (s : List ℕ) (side : ℕ) where
       let v = none-first (holds (holdOf s) (sideOf side)) 11 0 (omega arith) (u .1) in
       (not-no _ (t .0), u .0, v .0)
 
-  pub free-refused : {k : ℕ} {answer : Freed} → answer ≡ freeTold k 0 0 → k ≡ freeRefusal s side → k ≢ 0 → Frees s side answer s
-  free-refused {k} t e h = record { answers = t ∙ rw (← e, ne-eqb k 0 h) refl; afterwards = rw (← e, ne-eqb k 0 h) refl }
+  -- a row that is told is the record's
+  pub free-own : {k : ℕ} → k ≡ freeRefusal s side → OwnRow s k
+  unfolding freeRefusal
+  free-own e = rw e (own-when s (not (isSide side)) 13 refl (own-then s (alone-when (holds (holdOf s) (sideOf side)) 11 refl alone-0)))
+
+  pub free-refused : {k : ℕ} {told : Refusal} → told ≡ toldOf s k → k ≡ freeRefusal s side → k ≢ 0 →
+      Frees s side (record { refusal = told; before = 0; after = 0 }) s
+  free-refused {k} t e h = record { answers = rw (t, ← e, ne-eqb k 0 h) refl; afterwards = rw (← e, ne-eqb k 0 h) refl }
 
   -- the count of a record whose side was freed
   pub freed-count : {n : ℕ} → RecordOver s n → shownCount (relaid s (freedLayouts s side)) ≡ crossings (tableOf s) (freedLayouts s side)
@@ -61,9 +69,12 @@ module _ (s : List ℕ) (side : ℕ) where
       ap (λ T. crossings T (layoutsOf (relaid s (freedLayouts s side)))) (freed-table s n g (sideOf side))
       ∙ ap (crossings (tableOf s)) (freed-layouts s n g (sideOf side))
 
-  pub free-accepted : {b a : ℕ} {answer : Freed} {s′ : List ℕ} → answer ≡ freeTold 0 b a → freeRefusal s side ≡ 0 →
-      RecordFreed s (sideOf side) b a s′ → Frees s side answer s′
-  free-accepted t z f = record { answers = t ∙ rw (z, f .counted, f .recounted) refl; afterwards = f .afterwards ∙ rw z refl }
+  pub free-accepted : {b a : ℕ} {told : Refusal} {s′ : List ℕ} → told ≡ refused 0 → freeRefusal s side ≡ 0 →
+      RecordFreed s (sideOf side) b a s′ → Frees s side (record { refusal = told; before = b; after = a }) s′
+  free-accepted t z f = record {
+    answers = rw (t ∙ told-none (parts s) z, z, f .counted, f .recounted) refl;
+    afterwards = f .afterwards ∙ rw z refl;
+  }
 
 -- ---- a run's refusals
 
@@ -102,13 +113,21 @@ module _ (s : List ℕ) (allowance : ℕ) where
       let w = none-first (holds (holdOf s) right) 11 0 (omega arith) (v .1) in
       (t .0, u .0, v .0, w .0)
 
-  pub run-refused : {k : ℕ} {answer : Ran} → answer ≡ runTold k 0 0 0 0 → k ≡ runRefusal s allowance → k ≢ 0 → Runs s allowance answer s
-  run-refused {k} t e h = record { answers = t ∙ rw (← e, ne-eqb k 0 h) refl; afterwards = rw (← e, ne-eqb k 0 h) refl }
+  -- a row that is told is the record's
+  pub run-own : {k : ℕ} → k ≡ runRefusal s allowance → OwnRow s k
+  unfolding runRefusal
+  run-own e =
+      rw e (own-when s (noAllowance allowance) 12 refl (own-then s
+      (alone-when (holds (holdOf s) left) 11 refl (alone-when (holds (holdOf s) right) 11 refl alone-0))))
 
-  pub run-accepted : {f l t w : ℕ} {answer : Ran} {s′ : List ℕ} → answer ≡ runTold 0 f l t w → runRefusal s allowance ≡ 0 →
-      RecordRan s allowance f l t w s′ → Runs s allowance answer s′
+  pub run-refused : {k : ℕ} {told : Refusal} → told ≡ toldOf s k → k ≡ runRefusal s allowance → k ≢ 0 →
+      Runs s allowance (record { refusal = told; first = 0; last = 0; turns = 0; settled = 0 }) s
+  run-refused {k} t e h = record { answers = rw (t, ← e, ne-eqb k 0 h) refl; afterwards = rw (← e, ne-eqb k 0 h) refl }
+
+  pub run-accepted : {f l t w : ℕ} {told : Refusal} {s′ : List ℕ} → told ≡ refused 0 → runRefusal s allowance ≡ 0 →
+      RecordRan s allowance f l t w s′ → Runs s allowance (record { refusal = told; first = f; last = l; turns = t; settled = w }) s′
   run-accepted told z e = record {
-    answers = told ∙ rw (z, e .first-count, e .last-count, e .taken, e .ended) refl;
+    answers = rw (told ∙ told-none (parts s) z, z, e .first-count, e .last-count, e .taken, e .ended) refl;
     afterwards = e .afterwards ∙ rw z refl;
   }
 

@@ -5,7 +5,8 @@ use mathlib.Core.Bool.{cond}
 use mathlib.Core.List.{List}
 use Rattle.tanglegram.specs.Lists.{bit}
 use Rattle.tanglegram.specs.Table.{Layouts, crossings, free}
-use Rattle.record_fields.specs.Refused.{refused, accepted, orZero}
+use Rattle.record_fields.specs.Refused.{accepted, orZero}
+use Rattle.record_fields.specs.Told.{toldOf}
 use Rattle.record_fields.specs.Meaning.{tableOf, layoutsOf, relaid}
 use Rattle.record_arrays.specs.Sides.{sideOf}
 use Rattle.record_arrays.specs.Shown.{shownCount}
@@ -20,13 +21,9 @@ pub use Rattle.record_turns.specs.Worked.{ranTo}
 abbrev pub freedLayouts : List ℕ → ℕ → Layouts
 freedLayouts s side = free (tableOf s) (sideOf side) (layoutsOf s)
 
--- Freeing with a refusal's number.
-abbrev pub freeTold : ℕ → ℕ → ℕ → Freed
-freeTold k b a = record { refusal = refused k; before = b; after = a }
-
 pub record Frees (s : List ℕ) (side : ℕ) (answer : Freed) (s′ : List ℕ) : Type 0 where
   pub answers : answer ≡ record {
-    refusal = refused (freeRefusal s side);
+    refusal = toldOf s (freeRefusal s side);
     before = orZero (freeRefusal s side) (shownCount s);
     after = orZero (freeRefusal s side) (crossings (tableOf s) (freedLayouts s side));
   }
@@ -34,13 +31,9 @@ pub record Frees (s : List ℕ) (side : ℕ) (answer : Freed) (s′ : List ℕ) 
 
 -- ---- run
 
--- A run with a refusal's number.
-abbrev pub runTold : ℕ → ℕ → ℕ → ℕ → ℕ → Ran
-runTold k f l t w = record { refusal = refused k; first = f; last = l; turns = t; settled = w }
-
 pub record Runs (s : List ℕ) (allowance : ℕ) (answer : Ran) (s′ : List ℕ) : Type 0 where
   pub answers : answer ≡ record {
-    refusal = refused (runRefusal s allowance);
+    refusal = toldOf s (runRefusal s allowance);
     first = orZero (runRefusal s allowance) (shownCount s);
     last = orZero (runRefusal s allowance) (crossings (tableOf s) (ranTo s allowance .last));
     turns = orZero (runRefusal s allowance) (ranTo s allowance .turns);

@@ -4,8 +4,7 @@ ghost use Rattle.calls_turns.specs.Calls.{Frees, Runs};
 ghost use Rattle.calls_turns.specs.Refusals.{freeRefusal, runRefusal};
 use crate::answers::Freed;
 use crate::answers::Ran;
-use crate::answers::tell_free;
-use crate::answers::tell_run;
+use record::told;
 use record_arrays::is_held;
 use record_arrays::is_side;
 use record_fields::fields::HOLD_AT;
@@ -13,6 +12,7 @@ use record_fields::fields::MOST_TURNS;
 use record_fields::refusal::ALLOWANCE;
 use record_fields::refusal::HELD;
 use record_fields::refusal::SIDE;
+use record_fields::refusal::refused;
 use record_turns::free_record;
 use record_turns::run_record;
 
@@ -40,11 +40,19 @@ pub fn free(s: &mut [u8], side: u16) -> Freed
 {
     let k = freeing_number(s, side);
     if k != 0 {
-        return tell_free(k, 0, 0);
+        return Freed {
+            refusal: told(s, k),
+            before: 0,
+            after: 0,
+        };
     }
     let n = record::size_of(s);
     let turn = free_record(s, n, side);
-    tell_free(0, turn.before, turn.after)
+    Freed {
+        refusal: refused(0),
+        before: turn.before,
+        after: turn.after,
+    }
 }
 
 // The refusal of a run, or 0.
@@ -77,9 +85,21 @@ pub fn run(s: &mut [u8], allowance: u32) -> Ran
 {
     let k = running_number(s, allowance);
     if k != 0 {
-        return tell_run(k, 0, 0, 0, 0);
+        return Ran {
+            refusal: told(s, k),
+            first: 0,
+            last: 0,
+            turns: 0,
+            settled: 0,
+        };
     }
     let n = record::size_of(s);
     let taken = run_record(s, n, allowance);
-    tell_run(0, taken.first, taken.last, taken.turns, taken.settled)
+    Ran {
+        refusal: refused(0),
+        first: taken.first,
+        last: taken.last,
+        turns: taken.turns,
+        settled: taken.settled,
+    }
 }

@@ -10,20 +10,21 @@ use Rattle.record.specs.declared.reading.Reading.the-variants.{Accepted,
 use Rattle.record_fields.specs.Fields.{holdAt, holdOf, sizeOf}
 use Rattle.record_fields.specs.Refusals.{refusal, setHoldRefusal}
 use Rattle.record_fields.specs.Refused.{refused, accepted}
+use Rattle.record_fields.specs.Told.{toldOf}
 
 -- ---- checking and reading
 
 pub record Checks (s : List ℕ) (answer : Refusal) : Type 0 where
-  pub answers : answer ≡ refused (refusal s)
+  pub answers : answer ≡ toldOf s (refusal s)
 
 unfoldable pub readingOf : List ℕ → Reading
 unfolding refusal
-readingOf s = cond (accepted (refusal s)) (Accepted (record { hold = holdOf s; n = sizeOf s })) (Refused (refused (refusal s)))
+readingOf s = cond (accepted (refusal s)) (Accepted (record { hold = holdOf s; n = sizeOf s })) (Refused (toldOf s (refusal s)))
 
--- The number and the values of each case of a reading.
-abbrev pub readingNumber : Reading → ℕ
-readingNumber (Accepted h) = 0
-readingNumber (Refused r) = r .number
+-- The refusal and the values of each case of a reading.
+abbrev pub readingRefusal : Reading → Refusal
+readingRefusal (Accepted h) = refused 0
+readingRefusal (Refused r) = r
 
 abbrev pub holdIn : Reading → ℕ
 holdIn (Accepted h) = h .hold
@@ -39,5 +40,5 @@ pub record Reads (s : List ℕ) (answer : Reading) : Type 0 where
 -- ---- setting the hold: the record, and what it is afterwards
 
 pub record SetsHold (s : List ℕ) (letter : ℕ) (answer : Refusal) (s′ : List ℕ) : Type 0 where
-  pub answers : answer ≡ refused (setHoldRefusal s letter)
+  pub answers : answer ≡ toldOf s (setHoldRefusal s letter)
   pub afterwards : s′ ≡ cond (accepted (setHoldRefusal s letter)) (set s holdAt letter) s

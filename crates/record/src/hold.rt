@@ -4,6 +4,7 @@ ghost use mathlib.Core.Path.{_≡_};
 ghost use Rattle.record_fields.specs.Refusals.{setHoldRefusal};
 use crate::heading::is_hold;
 use crate::reading::refusal_number;
+use crate::telling::told;
 use record_fields::fields::HOLD_AT;
 use record_fields::refusal::HOLD;
 use record_fields::refusal::Refusal;
@@ -25,7 +26,7 @@ pub fn set_hold(s: &mut [u8], letter: u8) -> Refusal
 {
     let k = holding_number(s, letter);
     if k != 0 {
-        return refused(k);
+        return told(s, k);
     }
     s[HOLD_AT] = letter;
     refused(0)

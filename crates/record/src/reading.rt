@@ -3,11 +3,11 @@ ghost use mathlib.Core.Path.{_≡_};
 ghost use Rattle.record.specs.Calls.{Checks, Reads};
 ghost use Rattle.record_fields.specs.Refusals.{refusal};
 use crate::heading::heading_number;
+use crate::telling::told;
 use record_contents::contents_number;
 use record_fields::fields::hold_of;
 use record_fields::fields::size_of;
 use record_fields::refusal::Refusal;
-use record_fields::refusal::refused;
 
 // What an accepted record's heading says.
 pub struct Header {
@@ -36,7 +36,7 @@ pub fn refusal_number(s: &[u8]) -> u16
 pub fn check(s: &[u8]) -> Refusal
     ensures { λ r. ⌜ Checks (now (s .entry)) r ⌝ }
 {
-    refused(refusal_number(s))
+    told(s, refusal_number(s))
 }
 
 // Reads any bytes: the hold and n of an accepted record, or the refusal.
@@ -45,7 +45,7 @@ pub fn read(s: &[u8]) -> Reading
 {
     let k = refusal_number(s);
     if k != 0 {
-        return Reading::Refused(refused(k));
+        return Reading::Refused(told(s, k));
     }
     Reading::Accepted(Header {
         hold: hold_of(s),

@@ -2,6 +2,7 @@
 mod links;
 mod testing;
 
+pub use testing::bad_row_at;
 pub use testing::bad_row_in;
 pub use testing::contents_number;
 pub use testing::is_layout;

@@ -24,7 +24,7 @@ use record_fields::refusal::LINKS;
 use record_fields::refusal::RIGHT_ROW;
 
 // The lowest of the n-1 rows from place `at` on that breaks the tree rule, or 0.
-fn bad_row_at(s: &[u8], at: usize, n: u16) -> u16
+pub fn bad_row_at(s: &[u8], at: usize, n: u16) -> u16
     requires { ⌜ (1 ≤ n) × (n ≤ mostLeaves) × (at + 4 * (n - 1) ≤ length (now s)) ⌝ }
     ensures { λ r. ⌜
         r ≡

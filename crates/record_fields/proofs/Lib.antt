@@ -6,5 +6,6 @@ pub mod Heading
 pub mod Contents
 pub mod Acceptance
 pub mod Refused
+pub mod Told
 pub mod Meaning
 pub mod Rehold

@@ -1,4 +1,5 @@
--- A refusal as a value, and what a call that is refused answers and keeps: every other number is 0, and what was lent is as found.
+-- A refusal as a value, and what a call that is refused answers and keeps: every other number is 0, the row of 7
+-- and 8 apart (`Told`), and what was lent is as found.
 use Prim.Native.Nat.{ℕ}
 use mathlib.Core.Bool.{Bool, cond}
 use mathlib.Core.List.{List, _++_}
@@ -6,9 +7,12 @@ use lib.Dec.{eqb}
 use lib.ListN.{length, drop}
 use Rattle.record_fields.specs.declared.refusal.Refusal.{Refusal}
 
--- A refusal by its number, 0 for none; whether a call with that number is accepted.
+-- A refusal by its number, 0 for none: with a row, and without; whether a call with that number is accepted.
+abbrev pub refusedRow : ℕ → ℕ → Refusal
+refusedRow k i = record { number = k; row = i }
+
 abbrev pub refused : ℕ → Refusal
-refused k = record { number = k }
+refused k = refusedRow k 0
 
 abbrev pub accepted : ℕ → Bool
 accepted k = eqb k 0

@@ -1,17 +1,32 @@
 // Refusals: what a call answers when it is refused, and the refusals' numbers (docs/CALLS.md), each with its name.
+// Every refusal is made here; `record::told` says which row goes with a number.
 ghost use mathlib.Core.Path.{_≡_};
-ghost use Rattle.record_fields.specs.Refused.{refused};
+ghost use Rattle.record_fields.specs.Refused.{refused, refusedRow};
 
-// Why a call is refused; number 0 where it is not.
+// Why a call is refused: number 0 where it is not; with 7 and 8 the lowest row that breaks the tree rule, else row 0.
 pub struct Refusal {
     pub number: u16,
+    pub row: u16,
 }
 
-// The refusal with a number. Every refusal is made here.
+// The refusal with a number and no row.
 pub fn refused(number: u16) -> Refusal
     ensures { λ r. ⌜ r ≡ refused number ⌝ }
 {
-    Refusal { number: number }
+    Refusal {
+        number: number,
+        row: 0,
+    }
+}
+
+// The refusal with a number and a row.
+pub fn refused_row(number: u16, row: u16) -> Refusal
+    ensures { λ r. ⌜ r ≡ refusedRow number row ⌝ }
+{
+    Refusal {
+        number: number,
+        row: row,
+    }
 }
 
 // fewer than 8 bytes

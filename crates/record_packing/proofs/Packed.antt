@@ -1,8 +1,8 @@
 -- Packing's refusal, test by test; what parts with the right lengths make; and from what the call found to its statement.
 use Prim.Native.Nat.{ℕ, _+_, _-_, _*_, _≤_, _<_}
-use mathlib.Core.Path.{_≡_, refl, sym, ap, _∙_}
+use mathlib.Core.Path.{_≡_, refl, sym, ap, _∙_, subst}
 use mathlib.Core.Logic.{_≢_}
-use mathlib.Core.Bool.{true, not}
+use mathlib.Core.Bool.{true, not, false≢true}
 use mathlib.Core.List.{List, [], _∷_, _++_}
 use native.Mathlib.Omega.{arith}
 use borrow.Author.Tests.{lt-ltb, le-ltb, eq-eqb, eqb-true, ltb-false}
@@ -13,7 +13,9 @@ use Rattle.record_fields.specs.declared.refusal.Refusal.{Refusal}
 use Rattle.record_fields.specs.Letters.{letterT, letterG, letterP}
 use Rattle.record_fields.specs.Fields.{versionAt, holdAt, sizeAt}
 use Rattle.record_fields.specs.Fields.{split, rightAt, linksAt, leftLayoutAt, rightLayoutAt, lengthOf, Parts, given, opening, packed}
-use Rattle.record_fields.specs.Refusals.{isHold, noSize, contentsRefusal}
+use Rattle.record_fields.specs.Refusals.{_when_else_, isHold, noSize, contentsRefusal}
+use Rattle.record_fields.specs.Told.{tellsRow, toldIn}
+use Rattle.record_fields.proofs.Told.{Alone, told-alone, told-none, alone-when, alone-0, each-else}
 use Rattle.record_fields.specs.Refused.{refused}
 use Rattle.record_fields.proofs.Heading.{sized, unsized, none-first, not-no}
 use Rattle.work_trees.proofs.Stores.{sets-append}
@@ -71,6 +73,21 @@ shape-0 P h g =
       eq-eqb _ _ (g .right-layout-long),
     ) refl
 
+-- no row is told with it
+shape-alone : (hold n left right links left-layout right-layout : ℕ) →
+    Alone (shapeRefusal hold n left right links left-layout right-layout)
+unfolding shapeRefusal
+shape-alone hold n left right links left-layout right-layout =
+    alone-when (not (isHold hold)) 4 refl (alone-when (noSize n) 5 refl
+    (alone-when (not (eqb left (2 * (n - 1)))) 6 refl (alone-when (not (eqb right (2 * (n - 1)))) 6 refl
+    (alone-when (not (eqb links n)) 6 refl (alone-when (not (eqb left-layout (n - 1))) 6 refl
+    (alone-when (not (eqb right-layout (n - 1))) 6 refl alone-0))))))
+
+parts-shape-alone : (P : Parts) → Alone (partsShapeRefusal P)
+parts-shape-alone P =
+    shape-alone (P .hold) (P .size) (length (P .left-rows)) (length (P .right-rows)) (length (P .links)) (length (P .left-layout))
+    (length (P .right-layout))
+
 -- ---- the bytes that parts make
 
 pub length-packed : (P : Parts) → ShapedParts P → length (packed P) ≡ lengthOf (P .size)
@@ -112,7 +129,7 @@ stored h n left right links left-layout right-layout g l e₀ e₁ e₂ e₃ e�
 -- ---- the call
 
 module _ (P : Parts) (out : List ℕ) where
-  pub packing-shape : partsShapeRefusal P ≢ 0 → partsShapeRefusal P ≡ packRefusal P out
+  packing-shape : partsShapeRefusal P ≢ 0 → partsShapeRefusal P ≡ packRefusal P out
   unfolding packRefusal
   packing-shape h = sym (else-first (partsShapeRefusal P) _ h)
 
@@ -136,8 +153,25 @@ module _ (P : Parts) (out : List ℕ) where
       let t = none-both (contentsRefusal P) _ (s .1) in
       (s .0, t .0, ltb-false _ _ (none-first (ltb (length out) (lengthOf (P .size))) 14 0 (omega arith) (t .1) .0))
 
-  pub pack-refused : {k : ℕ} {answer : Refusal} → k ≡ packRefusal P out → k ≢ 0 → answer ≡ refused k → Packs P out answer out
-  pack-refused {k} e h r = record { answers = r ∙ ap refused e; afterwards = rw (← e) (lent-refused k (packed P) out h) }
+  -- a row that is told is the lists'
+  pub pack-own : tellsRow (packRefusal P out) ≡ true → contentsRefusal P ≡ packRefusal P out
+  unfolding packRefusal
+  pack-own =
+      let Q : ℕ → Type 0 = λ k. tellsRow k ≡ true → contentsRefusal P ≡ k in
+      let none : (k : ℕ) → Alone k → Q k = λ k a t. absurd (false≢true (sym (a .alone) ∙ t)) in
+      each-else Q (partsShapeRefusal P) (none (partsShapeRefusal P) (parts-shape-alone P))
+      (each-else Q (contentsRefusal P) (λ t. refl)
+      (none (14 when ltb (length out) (lengthOf (P .size)) else 0) (alone-when (ltb (length out) (lengthOf (P .size))) 14 refl alone-0)))
+
+  pub pack-refused : {k : ℕ} {answer : Refusal} → k ≡ packRefusal P out → k ≢ 0 → answer ≡ toldIn P k → Packs P out answer out
+  pack-refused {k} e h r = record { answers = r ∙ ap (toldIn P) e; afterwards = rw (← e) (lent-refused k (packed P) out h) }
+
+  -- a refusal without a row; the shape's is one
+  pub pack-alone : {k : ℕ} {answer : Refusal} → k ≡ packRefusal P out → k ≢ 0 → Alone k → answer ≡ refused k → Packs P out answer out
+  pack-alone e h a r = pack-refused e h (r ∙ told-alone P a)
+
+  pub pack-shape : {k : ℕ} {answer : Refusal} → k ≡ partsShapeRefusal P → k ≢ 0 → answer ≡ refused k → Packs P out answer out
+  pack-shape e h = pack-alone (e ∙ packing-shape (λ z. h (e ∙ z))) h (subst Alone (sym e) (parts-shape-alone P))
 
   pub pack-accepted : {answer : Refusal} {out′ : List ℕ} → 0 ≡ packRefusal P out → answer ≡ refused 0 → out′ ≡ sets out 0 (packed P) →
       Packs P out answer out′
@@ -146,6 +180,6 @@ module _ (P : Parts) (out : List ℕ) where
       let g = shape-good P (z .0) .1 in
       let h : length (packed P) ≤ length out = omega (arith, length-packed P g, z .2) in
       record {
-        answers = r ∙ ap refused e;
+        answers = r ∙ told-none P (sym e);
         afterwards = w ∙ sets-front out (packed P) h ∙ lent-accepted (packRefusal P out) (packed P) out (sym e);
       }

@@ -1,13 +1,15 @@
 // Packing: parts, as numbers and lists, into a buffer.
 ghost use mathlib.Core.Path.{_≡_};
-ghost use Prim.Native.Nat.{ℕ, _≤_};
+ghost use Prim.Native.Nat.{ℕ, _-_, _*_, _≤_};
 ghost use lib.ListN.{length};
 ghost use lib.Seq.{sets};
 ghost use Rattle.record_packing.specs.Calls.{Packs};
 ghost use Rattle.record_packing.specs.Refusals.{shapeRefusal};
 ghost use Rattle.record_packing.specs.Shapes.{Shaped};
-ghost use Rattle.record_fields.specs.Fields.{given, lengthOf, opening, packed};
+ghost use Rattle.record_fields.specs.Fields.{given, lengthOf, mostLeaves, opening, packed};
 ghost use Rattle.record_fields.specs.Refusals.{contentsRefusal};
+ghost use Rattle.record_fields.specs.Refused.{refusedRow};
+ghost use Rattle.record_fields.specs.Told.{rowFor};
 use record::heading::is_hold;
 use record::heading::no_size;
 use record_contents::bad_row_in;
@@ -37,6 +39,7 @@ use record_fields::refusal::ROOM;
 use record_fields::refusal::Refusal;
 use record_fields::refusal::SIZE;
 use record_fields::refusal::refused;
+use record_fields::refusal::refused_row;
 
 // 4 to 6 for the hold, n and the lengths of the five lists, or 0.
 fn shape_number(
@@ -115,6 +118,22 @@ fn lists_number(
         return LAYOUT;
     }
     0
+}
+
+// The refusal with a number of lists of the right lengths: 7 with the lowest row of left that breaks the tree rule, 8
+// with that of right.
+fn told_of_lists(n: u16, left: &[u16], right: &[u16], number: u16) -> Refusal
+    requires { ⌜ (1 ≤ n) × (n ≤ mostLeaves) ⌝ }
+    requires { ⌜ (length (now left) ≡ 2 * (n - 1)) × (length (now right) ≡ 2 * (n - 1)) ⌝ }
+    ensures { λ r. ⌜ r ≡ refusedRow number (rowFor n (now (left .entry)) (now (right .entry)) number) ⌝ }
+{
+    if number == LEFT_ROW {
+        return refused_row(number, bad_row_in(left, n));
+    }
+    if number == RIGHT_ROW {
+        return refused_row(number, bad_row_in(right, n));
+    }
+    refused(number)
 }
 
 // Writes bytes 0 to 7: the mark, version 1, the hold and n.
@@ -208,7 +227,7 @@ pub fn pack(
     }
     let l = lists_number(n, left, right, links, leftlayout, rightlayout);
     if l != 0 {
-        return refused(l);
+        return told_of_lists(n, left, right, l);
     }
     if out.len() < length_of(n) {
         return refused(ROOM);

@@ -12,9 +12,11 @@ use Rattle.record_fields.specs.declared.refusal.Refusal.{Refusal}
 use Rattle.record_fields.specs.Fields.{holdOf, sizeOf, rightAt, linksAt, leftLayoutAt, rightLayoutAt, Parts, parts, partsOf}
 use Rattle.record_fields.specs.Refusals.{refusal}
 use Rattle.record_fields.specs.Refused.{refused, lent}
+use Rattle.record_fields.specs.Told.{toldOf, OwnRow}
 use Rattle.record_fields.proofs.Heading.{none-first}
 use Rattle.record_fields.proofs.Acceptance.{else-first, else-second, none-both, accepted-sized}
 use Rattle.record_fields.proofs.Refused.{lent-refused, lent-accepted}
+use Rattle.record_fields.proofs.Told.{Alone, told-none, alone-when, alone-0, own-then}
 use Rattle.record_fields.proofs.Stores.{sets-front, length-numbers, length-bytes}
 use Rattle.record_unpacking.specs.declared.unpacking.Unpacked.{Unpacked}
 use Rattle.record_unpacking.specs.Refusals.{roomRefusal, unpackRefusal}
@@ -55,6 +57,13 @@ room-0 n l r p ll rl g =
       le-ltb _ _ (g .for-right-layout),
     ) refl
 
+-- no row is told with it
+room-alone : (n l r p ll rl : ℕ) → Alone (roomRefusal n l r p ll rl)
+unfolding roomRefusal
+room-alone n l r p ll rl =
+    alone-when (ltb l (2 * (n - 1))) 14 refl (alone-when (ltb r (2 * (n - 1))) 14 refl (alone-when (ltb p n) 14 refl
+    (alone-when (ltb ll (n - 1)) 14 refl (alone-when (ltb rl (n - 1)) 14 refl alone-0))))
+
 -- ---- the call
 
 module _ (s left right links left-layout right-layout : List ℕ) where
@@ -62,7 +71,7 @@ module _ (s left right links left-layout right-layout : List ℕ) where
   asked = roomRefusal (sizeOf s) (length left) (length right) (length links) (length left-layout) (length right-layout)
 
   pub unpack-refused : {k : ℕ} {answer : Unpacked} → k ≡ unpackRefusal s left right links left-layout right-layout → k ≢ 0 →
-      answer ≡ unpackedNone k →
+      answer ≡ unpackedNone (toldOf s k) →
       Unpacks s left right links left-layout right-layout answer left right links left-layout right-layout
   unpack-refused {k} e h a = record {
     answers = a ∙ rw (← e, ne-eqb k 0 h) refl;
@@ -72,6 +81,13 @@ module _ (s left right links left-layout right-layout : List ℕ) where
     afterwards-left-layout = rw (← e) (lent-refused k (parts s .left-layout) left-layout h);
     afterwards-right-layout = rw (← e) (lent-refused k (parts s .right-layout) right-layout h);
   }
+
+  -- a row that is told is the record's
+  pub unpack-own : {k : ℕ} → k ≡ unpackRefusal s left right links left-layout right-layout → OwnRow s k
+  unfolding unpackRefusal
+  unpack-own e =
+      rw e (own-then s
+      (room-alone (sizeOf s) (length left) (length right) (length links) (length left-layout) (length right-layout)))
 
   -- by the record's refusal, or else by the room
   pub unpack-first : refusal s ≢ 0 → refusal s ≡ unpackRefusal s left right links left-layout right-layout
@@ -115,7 +131,7 @@ module _ (s left right links left-layout right-layout : List ℕ) where
         ∙ sets-front found (part (parts s)) h
         ∙ lent-accepted k (part (parts s)) found z in
         record {
-          answers = rw (b, d, f, z) refl;
+          answers = rw (b ∙ told-none (parts s) z, d, f, z) refl;
           afterwards-left = put (λ P. P .left-rows) left _ (omega (arith, length-numbers s 8 (2 * (n - 1)))) (w .0);
           afterwards-right = put (λ P. P .right-rows) right _ (omega (arith, length-numbers s (rightAt n) (2 * (n - 1)))) (w .1 .0);
           afterwards-links = put (λ P. P .links) links _ (omega (arith, length-numbers s (linksAt n) n)) (w .1 .1 .0);

@@ -7,6 +7,7 @@ ghost use Rattle.record_unpacking.specs.Calls.{unpackedNone, Unpacks};
 ghost use Rattle.record_unpacking.specs.Refusals.{roomRefusal};
 ghost use Rattle.record_fields.specs.Fields.{partsOf, Sized};
 use record::reading::refusal_number;
+use record::told;
 use record_fields::copying::bytes_in;
 use record_fields::copying::numbers_out;
 use record_fields::fields::LEFT_ROWS_AT;
@@ -28,11 +29,11 @@ pub struct Unpacked {
 }
 
 // What a refused unpacking answers.
-fn unpacked_none(k: u16) -> Unpacked
-    ensures { λ r. ⌜ r ≡ unpackedNone k ⌝ }
+fn unpacked_none(refusal: Refusal) -> Unpacked
+    ensures { λ r. ⌜ r ≡ unpackedNone refusal ⌝ }
 {
     Unpacked {
-        refusal: refused(k),
+        refusal: refusal,
         hold: 0,
         n: 0,
     }
@@ -130,7 +131,7 @@ pub fn unpack(
 {
     let k = refusal_number(s);
     if k != 0 {
-        return unpacked_none(k);
+        return unpacked_none(told(s, k));
     }
     let n = size_of(s);
     let room = room_number(
@@ -142,7 +143,7 @@ pub fn unpack(
         rightlayout.len(),
     );
     if room != 0 {
-        return unpacked_none(room);
+        return unpacked_none(told(s, room));
     }
     write_parts(s, n, left, right, links, leftlayout, rightlayout);
     Unpacked {

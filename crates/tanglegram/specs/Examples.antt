@@ -1,5 +1,5 @@
 -- The list of examples: the customer's examples 1 to 10, a line for each case of them, and the case that tells p from its inverse. A line
--- has the case and all that should be said of it, field by field; of a case that is refused, the number and nothing else.
+-- has the case and all that should be said of it, field by field; of a case that is refused, the number, the bad row and nothing else.
 use Prim.Native.Nat.{ℕ, suc, pred, _+_, _*_}
 use mathlib.Core.Bool.{Bool, true, false, not}
 use mathlib.Core.List.{List, [], _∷_, map}
@@ -27,8 +27,9 @@ abbrev pub bytesOf : List ℕ → List ℕ → Layouts
 bytesOf l r = record { left-bytes = l; right-bytes = r }
 
 pub record Shown : Type 0 where
-  -- the record's refusal, or 0
+  -- the record's refusal, or 0; the row that is told with it, or 0
   pub refused : ℕ
+  pub bad-row : ℕ
   -- the orders, the count, each row's own crossings
   pub left-order : List ℕ
   pub right-order : List ℕ
@@ -83,6 +84,7 @@ module _ (g : Case) where
       let e = run (crossings T) (free T) (g .allowance) s in
       record {
         refused = 0;
+        bad-row = 0;
         left-order = orderOf T s left;
         right-order = orderOf T s right;
         crossed = crossings T s;
@@ -116,6 +118,7 @@ case2 = record {
 abbrev case2Shown : Shown
 case2Shown = record {
   refused = 0;
+  bad-row = 0;
   left-order = 4 ∷ 3 ∷ 1 ∷ 2 ∷ [];
   right-order = 1 ∷ 2 ∷ 3 ∷ 4 ∷ [];
   crossed = 5;
@@ -147,6 +150,7 @@ rootsTie s = record {
 abbrev rootsTieShown : Shown
 rootsTieShown = record {
   refused = 0;
+  bad-row = 0;
   left-order = 1 ∷ 2 ∷ 3 ∷ [];
   right-order = 1 ∷ 3 ∷ 2 ∷ [];
   crossed = 1;
@@ -167,6 +171,7 @@ rootsTieShown = record {
 abbrev clearedShown : Shown
 clearedShown = record {
   refused = 0;
+  bad-row = 0;
   left-order = 2 ∷ 1 ∷ 3 ∷ [];
   right-order = 2 ∷ 1 ∷ 3 ∷ [];
   crossed = 0;
@@ -198,6 +203,7 @@ gainsInTurn2 = record {
 abbrev gainsInTurn2Shown : Shown
 gainsInTurn2Shown = record {
   refused = 0;
+  bad-row = 0;
   left-order = 1 ∷ 2 ∷ 3 ∷ [];
   right-order = 1 ∷ 3 ∷ 2 ∷ [];
   crossed = 1;
@@ -229,6 +235,7 @@ oneLeaf k = record {
 abbrev oneLeafShown : ℕ → Bool → List ℕ → Shown
 oneLeafShown t end cs = record {
   refused = 0;
+  bad-row = 0;
   left-order = 1 ∷ [];
   right-order = 1 ∷ [];
   crossed = 0;
@@ -260,6 +267,7 @@ twoLeaves = record {
 abbrev twoLeavesShown : Shown
 twoLeavesShown = record {
   refused = 0;
+  bad-row = 0;
   left-order = 1 ∷ 2 ∷ [];
   right-order = 1 ∷ 2 ∷ [];
   crossed = 1;
@@ -277,7 +285,7 @@ twoLeavesShown = record {
   last-layouts = bytesOf (1 ∷ []) (0 ∷ []);
 }
 
--- Example 9: rows over three leaves that break the tree rule, on the left or on the right.
+-- Example 9: rows over three leaves that break the tree rule, on the left or on the right. Of two uses of one object the later is bad.
 abbrev rowsOver3 : List ℕ → List ℕ → Case
 rowsOver3 l r = record {
   size = 3;
@@ -288,9 +296,10 @@ rowsOver3 l r = record {
   allowance = 130818;
 }
 
-abbrev refusedShown : ℕ → Shown
-refusedShown k = record {
+abbrev refusedShown : ℕ → ℕ → Shown
+refusedShown k i = record {
   refused = k;
+  bad-row = i;
   left-order = [];
   right-order = [];
   crossed = 0;
@@ -322,6 +331,7 @@ notInverse = record {
 abbrev notInverseShown : Shown
 notInverseShown = record {
   refused = 0;
+  bad-row = 0;
   left-order = 2 ∷ 1 ∷ 3 ∷ [];
   right-order = 1 ∷ 2 ∷ 3 ∷ [];
   crossed = 3;
@@ -359,10 +369,10 @@ examples =
     ∷ line 7 (oneLeaf 2) (oneLeafShown 2 true (0 ∷ 0 ∷ 0 ∷ []))
     ∷ line 7 (oneLeaf 1) (oneLeafShown 1 false (0 ∷ 0 ∷ []))
     ∷ line 8 twoLeaves twoLeavesShown
-    ∷ line 9 (rowsOver3 (1 ∷ 2 ∷ 1 ∷ 3 ∷ []) good3) (refusedShown 7)
-    ∷ line 9 (rowsOver3 good3 (1 ∷ 2 ∷ 1 ∷ 3 ∷ [])) (refusedShown 8)
-    ∷ line 9 (rowsOver3 (1 ∷ 5 ∷ 2 ∷ 3 ∷ []) good3) (refusedShown 7)
-    ∷ line 9 (rowsOver3 good3 (1 ∷ 5 ∷ 2 ∷ 3 ∷ [])) (refusedShown 8)
+    ∷ line 9 (rowsOver3 (1 ∷ 2 ∷ 1 ∷ 3 ∷ []) good3) (refusedShown 7 2)
+    ∷ line 9 (rowsOver3 good3 (1 ∷ 2 ∷ 1 ∷ 3 ∷ [])) (refusedShown 8 2)
+    ∷ line 9 (rowsOver3 (1 ∷ 5 ∷ 2 ∷ 3 ∷ []) good3) (refusedShown 7 1)
+    ∷ line 9 (rowsOver3 good3 (1 ∷ 5 ∷ 2 ∷ 3 ∷ [])) (refusedShown 8 1)
     ∷ line 10 (rootsTie (bytesOf (0 ∷ 0 ∷ []) (0 ∷ 0 ∷ []))) rootsTieShown
     ∷ line 0 notInverse notInverseShown
     ∷ []

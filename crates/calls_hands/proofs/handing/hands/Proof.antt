@@ -5,7 +5,7 @@ use Rattle.record_fields.specs.Fields.{holdOf}
 use Rattle.record_fields.specs.Refusals.{refusal}
 use Rattle.calls_hands.specs.Refusals.{handOf, entriesRefusal}
 use Rattle.record_arrays.proofs.AsItStands.{long-enough, over-n}
-use Rattle.calls_hands.proofs.HandLists.{first-accepted, first-refused, second-refused, second-accepted}
+use Rattle.calls_hands.proofs.HandLists.{first-accepted, first-own, first-refused, second-refused, second-accepted}
 use borrow.Author.Needs.{needs}
 use Rattle.calls_hands.proofs.handing.hands.Statement.{statement}
 use Rattle.calls_hands.proofs.handing.hands.Tie as tie
@@ -13,17 +13,20 @@ use Rattle.calls_hands.proofs.handing.hands.Tie as tie
 list-number-requires : tie.Need-list-number-requires
 list-number-requires c κs = search needs
 
-refused-requires : tie.Need-refused-requires
-refused-requires c κs = search needs
+told-requires : tie.Need-told-requires
+told-requires c κs =
+    let p = c .before in
+    let a = p .before .before .before .before .before .args in
+    first-own (a .s .now) handOf (a .list .now) (p .before .list-number .ensures) (p .if1 .taken)
 
 same-length : tie.Need-same-length
 same-length c = search needs
 
 returns : tie.Need-returns
 returns c =
-    let p = c .before in
+    let p = c .before .before in
     let a = p .before .before .before .before .before .args in
-    first-refused (a .s .now) handOf (a .list .now) (p .before .list-number .ensures) (p .if1 .taken) (c .refused .ensures)
+    first-refused (a .s .now) handOf (a .list .now) (p .before .list-number .ensures) (p .if1 .taken) (c .told .ensures)
 
 -- the record is accepted
 accepted : (c : tie.Else1) → refusal (c .before .before .before .before .before .args .s .now) ≡ 0
@@ -48,8 +51,8 @@ found c =
     let e = c .before .hold-of .ensures in
     rw e at (c .first-bad .ensures)
 
-refused-requires-2 : tie.Need-refused-requires-2
-refused-requires-2 c κs = search needs
+refused-requires : tie.Need-refused-requires
+refused-requires c κs = search needs
 
 same-length-2 : tie.Need-same-length-2
 same-length-2 c = search needs
@@ -61,7 +64,7 @@ returns-2 c =
     let p = q .before .before in
     let a = p .before .before .before .before .before .args in
     second-refused (a .s .now) handOf (a .list .now) (p .before .list-number .ensures) (p .if1 .left) (q .size-of .ensures)
-    (found (r .before)) (r .if2 .taken) (c .refused2 .ensures)
+    (found (r .before)) (r .if2 .taken) (c .refused .ensures)
 
 turn-hands-requires : tie.Need-turn-hands-requires
 turn-hands-requires c κs =
@@ -69,8 +72,8 @@ turn-hands-requires c κs =
     let q = r .before .before .before .before in
     (over-n _ (accepted (q .before .before)) (q .size-of .ensures), sym (found (r .before)) ∙ r .if2 .left)
 
-refused-requires-3 : tie.Need-refused-requires-3
-refused-requires-3 c κs = search needs
+refused-requires-2 : tie.Need-refused-requires-2
+refused-requires-2 c κs = search needs
 
 same-length-3 : tie.Need-same-length-3
 same-length-3 c = search needs
@@ -83,23 +86,23 @@ returns-3 c =
     let p = q .before .before in
     let a = p .before .before .before .before .before .args in
     second-accepted (a .s .now) handOf (a .list .now) (p .before .list-number .ensures) (p .if1 .left) (q .size-of .ensures)
-    (found (r .before)) (r .if2 .left) (c .refused3 .ensures) (t .turn-hands .ensures)
+    (found (r .before)) (r .if2 .left) (c .refused2 .ensures) (t .turn-hands .ensures)
 
 pub hands-spec : {M : Type 1} → statement M
 hands-spec =
     tie.close
     (tie.spec
     list-number-requires
-    refused-requires
+    told-requires
     same-length
     returns
     size-of-requires
     hold-of-requires
     first-bad-requires
-    refused-requires-2
+    refused-requires
     same-length-2
     returns-2
     turn-hands-requires
-    refused-requires-3
+    refused-requires-2
     same-length-3
     returns-3)

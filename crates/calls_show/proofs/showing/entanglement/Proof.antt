@@ -1,6 +1,7 @@
 -- `entanglement`: a refusal, a single leaf, and the ratio of two numbers below 2 to the 53.
 use mathlib.Core.Path.{sym, _∙_}
 use Rattle.calls_show.specs.Calls.{ratio}
+use Rattle.record_fields.proofs.Told.{refusal-own}
 use Rattle.record_arrays.proofs.AsItStands.{long-enough, over-n}
 use Rattle.calls_show.proofs.Outcomes.{entangled-refused, entangled-none, entangled-ratio}
 use borrow.Author.Needs.{needs}
@@ -10,13 +11,13 @@ use Rattle.calls_show.proofs.showing.entanglement.Tie as tie
 refusal-number-requires : tie.Need-refusal-number-requires
 refusal-number-requires c κs = search needs
 
-refused-requires : tie.Need-refused-requires
-refused-requires c κs = search needs
+told-requires : tie.Need-told-requires
+told-requires c κs = refusal-own _ (c .before .refusal-number .ensures)
 
 returns : tie.Need-returns
 returns c =
     let t = c .before in
-    entangled-refused _ (c .refused .ensures) (t .before .refusal-number .ensures) (t .if1 .taken)
+    entangled-refused _ (c .told .ensures) (t .before .refusal-number .ensures) (t .if1 .taken)
 
 size-of-requires : tie.Need-size-of-requires
 size-of-requires c κs = long-enough _ (sym (c .before .refusal-number .ensures) ∙ c .if1 .left)
@@ -58,7 +59,7 @@ entanglement-spec =
     tie.close
     (tie.spec
     refusal-number-requires
-    refused-requires
+    told-requires
     returns
     size-of-requires
     returns-2

@@ -5,7 +5,7 @@ use lib.Seq.{length-take-le}
 use Rattle.record_arrays.specs.Sides.{sideOf}
 use Rattle.record_arrays.proofs.Apart.{order-long}
 use Rattle.record_arrays.proofs.AsItStands.{long-enough, over-n}
-use Rattle.calls_show.proofs.Outcomes.{ordering-good, order-refused, order-accepted}
+use Rattle.calls_show.proofs.Outcomes.{ordering-good, order-own, order-refused, order-accepted}
 use borrow.Author.Needs.{needs}
 use Rattle.calls_show.proofs.showing.order.Statement.{statement}
 use Rattle.calls_show.proofs.showing.order.Tie as tie
@@ -13,8 +13,8 @@ use Rattle.calls_show.proofs.showing.order.Tie as tie
 ordering-number-requires : tie.Need-ordering-number-requires
 ordering-number-requires c κs = search needs
 
-refused-requires : tie.Need-refused-requires
-refused-requires c κs = search needs
+told-requires : tie.Need-told-requires
+told-requires c κs = order-own _ _ _ (c .before .ordering-number .ensures)
 
 same-length : tie.Need-same-length
 same-length c = search needs
@@ -22,7 +22,7 @@ same-length c = search needs
 returns : tie.Need-returns
 returns c =
     let t = c .before in
-    order-refused _ _ _ (c .refused .ensures) (t .before .ordering-number .ensures) (t .if1 .taken)
+    order-refused _ _ _ (c .told .ensures) (t .before .ordering-number .ensures) (t .if1 .taken)
 
 size-of-requires : tie.Need-size-of-requires
 size-of-requires c κs =
@@ -56,8 +56,8 @@ copied-requires c κs =
     let a = ordering-good _ _ _ (sym (p .before .ordering-number .ensures) ∙ p .if1 .left) in
     omega (arith, a .2, q .size-of .ensures, slice-aggregate-copied (c .before))
 
-refused-requires-2 : tie.Need-refused-requires-2
-refused-requires-2 c κs = search needs
+refused-requires : tie.Need-refused-requires
+refused-requires c κs = search needs
 
 same-length-2 : tie.Need-same-length-2
 same-length-2 c = search needs
@@ -69,14 +69,14 @@ returns-2 c =
     let q = w .before .before in
     let p = q .before in
     let a = sym (p .before .ordering-number .ensures) ∙ p .if1 .left in
-    order-accepted _ _ _ _ _ _ _ (c .refused2 .ensures) a (q .size-of .ensures) (w .side-order .ensures) (v .copied .ensures)
+    order-accepted _ _ _ _ _ _ _ (c .refused .ensures) a (q .size-of .ensures) (w .side-order .ensures) (v .copied .ensures)
 
 pub order-spec : {M : Type 1} → statement M
 order-spec =
     tie.close
     (tie.spec
     ordering-number-requires
-    refused-requires
+    told-requires
     same-length
     returns
     size-of-requires
@@ -85,6 +85,6 @@ order-spec =
     array-share-prefix-made
     slice-aggregate-copied
     copied-requires
-    refused-requires-2
+    refused-requires
     same-length-2
     returns-2)

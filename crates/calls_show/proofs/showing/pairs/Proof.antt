@@ -1,5 +1,6 @@
 -- `pairs`: a refused record answers 0; an accepted one is counted pair by pair.
 use mathlib.Core.Path.{sym, _∙_}
+use Rattle.record_fields.proofs.Told.{refusal-own}
 use Rattle.record_arrays.proofs.AsItStands.{long-enough, over-n}
 use Rattle.calls_show.proofs.Outcomes.{count-refused, count-accepted}
 use borrow.Author.Needs.{needs}
@@ -9,33 +10,34 @@ use Rattle.calls_show.proofs.showing.pairs.Tie as tie
 refusal-number-requires : tie.Need-refusal-number-requires
 refusal-number-requires c κs = search needs
 
+told-requires : tie.Need-told-requires
+told-requires c κs = refusal-own _ (c .before .refusal-number .ensures)
+
 returns : tie.Need-returns
 returns c =
     let t = c .before in
-    count-refused _ (c .tell-count .ensures) (t .before .refusal-number .ensures) (t .if1 .taken)
+    count-refused _ (c .told .ensures) (t .before .refusal-number .ensures) (t .if1 .taken)
 
-tell-count-requires : tie.Need-tell-count-requires
-tell-count-requires c κs = search needs
+refused-requires : tie.Need-refused-requires
+refused-requires c κs = search needs
 
 size-of-requires : tie.Need-size-of-requires
-size-of-requires c κs = long-enough _ (sym (c .before .refusal-number .ensures) ∙ c .if1 .left)
+size-of-requires c κs =
+    let p = c .before in
+    long-enough _ (sym (p .before .refusal-number .ensures) ∙ p .if1 .left)
 
 record-paired-requires : tie.Need-record-paired-requires
 record-paired-requires c κs =
-    let p = c .before in
+    let p = c .before .before in
     over-n _ (sym (p .before .refusal-number .ensures) ∙ p .if1 .left) (c .size-of .ensures)
-
-tell-count-requires-2 : tie.Need-tell-count-requires-2
-tell-count-requires-2 c κs = search needs
 
 returns-2 : tie.Need-returns-2
 returns-2 c =
-    let v = c .before in
-    let p = v .before .before in
-    count-accepted _ (c .tell-count2 .ensures) (sym (p .before .refusal-number .ensures) ∙ p .if1 .left) (v .record-paired .ensures)
+    let r = c .before .before in
+    let p = r .before in
+    count-accepted _ (r .refused .ensures) (sym (p .before .refusal-number .ensures) ∙ p .if1 .left) (c .record-paired .ensures)
 
 pub pairs-spec : {M : Type 1} → statement M
 pairs-spec =
     tie.close
-    (tie.spec refusal-number-requires tell-count-requires returns size-of-requires
-    record-paired-requires tell-count-requires-2 returns-2)
+    (tie.spec refusal-number-requires told-requires returns refused-requires size-of-requires record-paired-requires returns-2)

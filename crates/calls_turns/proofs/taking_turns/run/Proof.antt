@@ -1,7 +1,7 @@
 -- `run`: a refused call keeps every byte; otherwise turns are taken, and told.
 use mathlib.Core.Path.{sym, _∙_}
 use Rattle.record_arrays.proofs.AsItStands.{long-enough, over-n}
-use Rattle.calls_turns.proofs.Turns.{running-good, allowance-some, run-refused, run-accepted}
+use Rattle.calls_turns.proofs.Turns.{running-good, allowance-some, run-own, run-refused, run-accepted}
 use borrow.Author.Needs.{needs}
 use Rattle.calls_turns.proofs.taking_turns.run.Statement.{statement}
 use Rattle.calls_turns.proofs.taking_turns.run.Tie as tie
@@ -9,8 +9,8 @@ use Rattle.calls_turns.proofs.taking_turns.run.Tie as tie
 running-number-requires : tie.Need-running-number-requires
 running-number-requires c κs = search needs
 
-tell-run-requires : tie.Need-tell-run-requires
-tell-run-requires c κs = search needs
+told-requires : tie.Need-told-requires
+told-requires c κs = run-own _ _ (c .before .running-number .ensures)
 
 same-length : tie.Need-same-length
 same-length c = search needs
@@ -18,7 +18,7 @@ same-length c = search needs
 returns : tie.Need-returns
 returns c =
     let t = c .before in
-    run-refused _ _ (c .tell-run .ensures) (t .before .running-number .ensures) (t .if1 .taken)
+    run-refused _ _ (c .told .ensures) (t .before .running-number .ensures) (t .if1 .taken)
 
 size-of-requires : tie.Need-size-of-requires
 size-of-requires c κs =
@@ -31,8 +31,8 @@ run-record-requires c κs =
     let a = running-good _ _ (sym (p .before .running-number .ensures) ∙ p .if1 .left) in
     (over-n _ (a .1) (c .before .size-of .ensures), allowance-some _ (a .0))
 
-tell-run-requires-2 : tie.Need-tell-run-requires-2
-tell-run-requires-2 c κs = search needs
+refused-requires : tie.Need-refused-requires
+refused-requires c κs = search needs
 
 same-length-2 : tie.Need-same-length-2
 same-length-2 c = search needs
@@ -41,18 +41,18 @@ returns-2 : tie.Need-returns-2
 returns-2 c =
     let v = c .before .before .before in
     let p = v .before .before .before .before in
-    run-accepted _ _ (c .tell-run2 .ensures) (sym (p .before .running-number .ensures) ∙ p .if1 .left) (v .run-record .ensures)
+    run-accepted _ _ (c .refused .ensures) (sym (p .before .running-number .ensures) ∙ p .if1 .left) (v .run-record .ensures)
 
 pub run-spec : {M : Type 1} → statement M
 run-spec =
     tie.close
     (tie.spec
     running-number-requires
-    tell-run-requires
+    told-requires
     same-length
     returns
     size-of-requires
     run-record-requires
-    tell-run-requires-2
+    refused-requires
     same-length-2
     returns-2)

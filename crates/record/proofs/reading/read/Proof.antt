@@ -2,6 +2,7 @@
 use mathlib.Core.Path.{sym, _∙_}
 use native.Mathlib.Omega.{arith}
 use Rattle.record_fields.proofs.Acceptance.{accepted-sized}
+use Rattle.record_fields.proofs.Told.{refusal-own}
 use Rattle.record.proofs.Outcomes.{read-refused, read-accepted}
 use borrow.Author.Needs.{needs}
 use Rattle.record.proofs.reading.read.Statement.{statement}
@@ -10,13 +11,13 @@ use Rattle.record.proofs.reading.read.Tie as tie
 refusal-number-requires : tie.Need-refusal-number-requires
 refusal-number-requires c κs = search needs
 
-refused-requires : tie.Need-refused-requires
-refused-requires c κs = search needs
+told-requires : tie.Need-told-requires
+told-requires c κs = refusal-own _ (c .before .refusal-number .ensures)
 
 returns : tie.Need-returns
 returns c =
     let p = c .before in
-    read-refused _ (p .before .refusal-number .ensures) (p .if1 .taken) (c .refused .ensures)
+    read-refused _ (p .before .refusal-number .ensures) (p .if1 .taken) (c .told .ensures)
 
 hold-of-requires : tie.Need-hold-of-requires
 hold-of-requires c κs =
@@ -37,4 +38,4 @@ returns-2 c =
 pub read-spec : {M : Type 1} → statement M
 read-spec =
     tie.close
-    (tie.spec refusal-number-requires refused-requires returns hold-of-requires size-of-requires returns-2)
+    (tie.spec refusal-number-requires told-requires returns hold-of-requires size-of-requires returns-2)

@@ -1,8 +1,9 @@
 -- `pack` answers the first refusal, or writes the record.
-use mathlib.Core.Path.{sym, _∙_}
+use mathlib.Core.Path.{refl, sym, _∙_}
 use native.Mathlib.Omega.{arith}
-use Rattle.record_packing.proofs.Packed.{shape-some, shape-good, packing-shape, packing-contents}
-use Rattle.record_packing.proofs.Packed.{packing-14, packing-0, pack-refused}
+use Rattle.record_fields.specs.Fields.{given}
+use Rattle.record_packing.proofs.Packed.{shape-some, shape-good, packing-contents}
+use Rattle.record_packing.proofs.Packed.{packing-14, packing-0, pack-refused, pack-alone, pack-shape}
 use Rattle.record_packing.proofs.Packed.{pack-accepted}
 use borrow.Author.Needs.{needs}
 use Rattle.record_packing.proofs.packing.pack.Statement.{statement}
@@ -17,15 +18,19 @@ refused-requires c κs = search needs
 returns : tie.Need-returns
 returns c =
     let p = c .before in
-    let e = p .before .shape-number .ensures in
-    pack-refused _ _ (e ∙ packing-shape _ _ (λ z. p .if1 .taken (e ∙ z))) (p .if1 .taken) (c .refused .ensures)
+    pack-shape _ _ (p .before .shape-number .ensures) (p .if1 .taken) (c .refused .ensures)
 
 lists-number-requires : tie.Need-lists-number-requires
 lists-number-requires c κs =
     shape-good _ (sym (c .before .shape-number .ensures) ∙ c .if1 .left) .1
 
-refused-requires-2 : tie.Need-refused-requires-2
-refused-requires-2 c κs = search needs
+told-of-lists-requires : tie.Need-told-of-lists-requires
+told-of-lists-requires c κs =
+    let p = c .before .before in
+    let a = p .before .before .before .before .before .before .before .before .args in
+    let P = given (a .hold) (a .n) (a .left .now) (a .right .now) (a .links .now) (a .leftlayout .now) (a .rightlayout .now) in
+    let g = shape-good P (sym (p .before .shape-number .ensures) ∙ p .if1 .left) .1 in
+    ((g .some, g .most), (g .left-long, g .right-long))
 
 returns-2 : tie.Need-returns-2
 returns-2 c =
@@ -34,15 +39,15 @@ returns-2 c =
     let a = p .before .before .before .before .before .before .before .before .args in
     let e = q .before .lists-number .ensures (a .hold) in
     let s = sym (p .before .shape-number .ensures) ∙ p .if1 .left in
-    pack-refused _ _ (e ∙ packing-contents _ _ s (λ z. q .if2 .taken (e ∙ z))) (q .if2 .taken) (c .refused2 .ensures)
+    pack-refused _ _ (e ∙ packing-contents _ _ s (λ z. q .if2 .taken (e ∙ z))) (q .if2 .taken) (c .told-of-lists .ensures)
 
 length-of-requires : tie.Need-length-of-requires
 length-of-requires c κs =
     let p = c .before .before in
     shape-some _ _ _ _ _ _ _ (sym (p .before .shape-number .ensures) ∙ p .if1 .left)
 
-refused-requires-3 : tie.Need-refused-requires-3
-refused-requires-3 c κs = search needs
+refused-requires-2 : tie.Need-refused-requires-2
+refused-requires-2 c κs = search needs
 
 returns-3 : tie.Need-returns-3
 returns-3 c =
@@ -53,7 +58,7 @@ returns-3 c =
     let s = sym (p .before .shape-number .ensures) ∙ p .if1 .left in
     let l = sym (q .before .lists-number .ensures (a .hold)) ∙ q .if2 .left in
     let n = r .before .length-of .ensures in
-    pack-refused _ _ (packing-14 _ _ s l (rw n at (r .if3 .taken))) (omega arith) (c .refused3 .ensures)
+    pack-alone _ _ (packing-14 _ _ s l (rw n at (r .if3 .taken))) (omega arith) (record { alone = refl }) (c .refused2 .ensures)
 
 write-record-requires : tie.Need-write-record-requires
 write-record-requires c κs =
@@ -63,8 +68,8 @@ write-record-requires c κs =
     let n = r .before .length-of .ensures in
     (shape-good _ (sym (p .before .shape-number .ensures) ∙ p .if1 .left) .1, rw n at (r .if3 .left))
 
-refused-requires-4 : tie.Need-refused-requires-4
-refused-requires-4 c κs = search needs
+refused-requires-3 : tie.Need-refused-requires-3
+refused-requires-3 c κs = search needs
 
 same-length : tie.Need-same-length
 same-length c = search needs
@@ -79,7 +84,7 @@ returns-4 c =
     let s = sym (p .before .shape-number .ensures) ∙ p .if1 .left in
     let l = sym (q .before .lists-number .ensures (a .hold)) ∙ q .if2 .left in
     let n = r .before .length-of .ensures in
-    pack-accepted _ _ (packing-0 _ _ s l (rw n at (r .if3 .left))) (c .refused4 .ensures) (w .write-record .ensures)
+    pack-accepted _ _ (packing-0 _ _ s l (rw n at (r .if3 .left))) (c .refused3 .ensures) (w .write-record .ensures)
 
 pub pack-spec : {M : Type 1} → statement M
 pack-spec =
@@ -89,12 +94,12 @@ pack-spec =
     refused-requires
     returns
     lists-number-requires
-    refused-requires-2
+    told-of-lists-requires
     returns-2
     length-of-requires
-    refused-requires-3
+    refused-requires-2
     returns-3
     write-record-requires
-    refused-requires-4
+    refused-requires-3
     same-length
     returns-4)

@@ -1,11 +1,14 @@
 -- `unpack` answers the refusal and writes nothing, or writes the parts and answers the hold and n.
 use lib.ListN.{length}
-use mathlib.Core.Path.{sym, ap, subst, _∙_}
+use mathlib.Core.Path.{_≡_, sym, ap, subst, _∙_}
 use native.Mathlib.Omega.{arith}
 use Rattle.record_fields.specs.Fields.{Sized}
-use Rattle.record_unpacking.specs.Refusals.{roomRefusal}
+use Rattle.record_unpacking.specs.Refusals.{roomRefusal, unpackRefusal}
+use Rattle.record_unpacking.specs.Calls.{unpackedNone}
 use Rattle.record_fields.proofs.Acceptance.{accepted-sized}
-use Rattle.record_unpacking.proofs.Unpacked.{room-good, unpack-refused, unpack-first, unpack-second, unpack-accepted}
+use Rattle.record_fields.proofs.Told.{refusal-own}
+use Rattle.record_unpacking.proofs.Unpacked.{room-good, unpack-refused, unpack-own, unpack-first, unpack-second}
+use Rattle.record_unpacking.proofs.Unpacked.{unpack-accepted}
 use borrow.Author.Needs.{needs}
 use Rattle.record_unpacking.proofs.unpacking.unpack.Statement.{statement}
 use Rattle.record_unpacking.proofs.unpacking.unpack.Tie as tie
@@ -13,14 +16,18 @@ use Rattle.record_unpacking.proofs.unpacking.unpack.Tie as tie
 refusal-number-requires : tie.Need-refusal-number-requires
 refusal-number-requires c κs = search needs
 
+told-requires : tie.Need-told-requires
+told-requires c κs = refusal-own _ (c .before .refusal-number .ensures)
+
 unpacked-none-requires : tie.Need-unpacked-none-requires
 unpacked-none-requires c κs = search needs
 
 returns : tie.Need-returns
 returns c =
-    let p = c .before in
+    let p = c .before .before in
     let e = p .before .refusal-number .ensures in
-    unpack-refused _ _ _ _ _ _ (e ∙ unpack-first _ _ _ _ _ _ (λ z. p .if1 .taken (e ∙ z))) (p .if1 .taken) (c .unpacked-none .ensures)
+    unpack-refused _ _ _ _ _ _ (e ∙ unpack-first _ _ _ _ _ _ (λ z. p .if1 .taken (e ∙ z))) (p .if1 .taken)
+    (c .unpacked-none .ensures ∙ ap unpackedNone (c .before .told .ensures))
 
 size-of-requires : tie.Need-size-of-requires
 size-of-requires c κs =
@@ -33,19 +40,30 @@ room-number-requires c κs =
     let g = accepted-sized _ (sym (p .before .refusal-number .ensures) ∙ p .if1 .left) in
     omega (arith, c .size-of .ensures)
 
+-- the number of the room's test is the call's
+room-found : (c : tie.Then2) → let u = c .before .before .before in
+    let a = u .before .before .before .before .before .before .before .before .args in
+    c .before .room-number .result ≡
+    unpackRefusal (a .s .now) (a .left .now) (a .right .now) (a .links .now) (a .leftlayout .now) (a .rightlayout .now)
+room-found c =
+    let u = c .before .before .before in
+    let a = u .before .before .before .before .before .before .before .before .args in
+    let z = sym (u .before .refusal-number .ensures) ∙ u .if1 .left in
+    c .before .room-number .ensures
+    ∙ ap (λ n. roomRefusal n (length (a .left .now)) (length (a .right .now)) (length (a .links .now))
+    (length (a .leftlayout .now)) (length (a .rightlayout .now))) (c .before .before .size-of .ensures)
+    ∙ unpack-second _ _ _ _ _ _ z
+
+told-requires-2 : tie.Need-told-requires-2
+told-requires-2 c κs = unpack-own _ _ _ _ _ _ (room-found c)
+
 unpacked-none-requires-2 : tie.Need-unpacked-none-requires-2
 unpacked-none-requires-2 c κs = search needs
 
 returns-2 : tie.Need-returns-2
 returns-2 c =
-    let v = c .before in
-    let u = v .before .before .before in
-    let a = u .before .before .before .before .before .before .before .before .args in
-    let z = sym (u .before .refusal-number .ensures) ∙ u .if1 .left in
-    let e = v .before .room-number .ensures
-    ∙ ap (λ n. roomRefusal n (length (a .left .now)) (length (a .right .now)) (length (a .links .now))
-    (length (a .leftlayout .now)) (length (a .rightlayout .now))) (v .before .before .size-of .ensures) in
-    unpack-refused _ _ _ _ _ _ (e ∙ unpack-second _ _ _ _ _ _ z) (v .if2 .taken) (c .unpacked-none2 .ensures)
+    let v = c .before .before in
+    unpack-refused _ _ _ _ _ _ (room-found v) (v .if2 .taken) (c .unpacked-none2 .ensures ∙ ap unpackedNone (c .before .told2 .ensures))
 
 write-parts-requires : tie.Need-write-parts-requires
 write-parts-requires c κs =
@@ -99,10 +117,12 @@ unpack-spec =
     tie.close
     (tie.spec
     refusal-number-requires
+    told-requires
     unpacked-none-requires
     returns
     size-of-requires
     room-number-requires
+    told-requires-2
     unpacked-none-requires-2
     returns-2
     write-parts-requires
