@@ -1,6 +1,6 @@
 #!/usr/bin/env bash
-# Compares sheet with the peer's sheet: records of all shapes and sizes, each hold, cut short, too long, empty, damaged,
-# and given in pieces. Ends with 1 at the first difference.
+# Compares sheet with the peer's sheet: records of all shapes and sizes, each hold, the first or the last row of a side
+# bad, cut short, too long, empty, damaged, and given in pieces. Ends with 1 at the first difference.
 . "$(dirname "$0")/../programs.sh"
 build
 records=0
@@ -18,6 +18,13 @@ with() {
   { head -c 5 "$file"; printf '%s' "$1"; tail -c +7 "$file"; } > "$file.hold"
 }
 
+# bad AT REFUSAL: the record in $file with a 0 as the upper child of the row at byte AT; what both print of it.
+bad() {
+  { head -c "$1" "$file"; printf '\0\0'; tail -c "+$(($1 + 3))" "$file"; } > "$file.bad"
+  same "$file.bad"
+  [ "$(cat "$out/sheet.got")" = "REFUSED $2" ] || { echo "not refused $2: $file.bad"; exit 1; }
+}
+
 file=$out/sheet.record
 for n in 1 2 3 4 8 64 511 512; do
   for shape in balanced caterpillar random; do
@@ -26,6 +33,11 @@ for n in 1 2 3 4 8 64 511 512; do
     for hold in L R B M; do with "$hold"; same "$file.hold"; done
     head -c $((12 * n - 3)) "$file" > "$file.short"; same "$file.short"
     { cat "$file"; printf 'x'; } > "$file.long"; same "$file.long"
+    for row in 1 $((n - 1)); do
+      [ "$n" -gt 1 ] || continue
+      bad $((4 * row + 4)) "7 $row"
+      bad $((4 * n + 4 * row)) "8 $row"
+    done
   done
 done
 cp crates/sheet/stdin "$file"

@@ -6,10 +6,11 @@
  * where the length is 0, and what one call may change nothing else reads or changes during the call. Nothing is kept
  * after it, and no call asks for memory of its own but the stack.
  *
- * Each call answers a struct of numbers by value, the refusal first: 0, or the number of the first test that failed, in
- * the order given with the call. A refused call answers zero for every other number and changes no byte. One that is
- * not refused changes what is said with the call, and no other byte. docs/CALLS.md explains the words used here, and
- * docs/RECORD.md the record's bytes.
+ * Each call answers a struct of numbers by value. The first is the refusal: 0, or the number of the first test that
+ * failed, in the order given with the call. The second is the row: beside 7 and 8 the lowest row, 1 to n-1, of the left
+ * or the right tree that breaks the tree rule, and 0 beside every other number. A refused call answers zero for every
+ * number after these two and changes no byte. One that is not refused changes what is said with the call, and no other
+ * byte. docs/CALLS.md explains the words used here, and docs/RECORD.md the record's bytes.
  *
  * Sides, letters, n and allowances are 32 bits wide, and each is tested as it is: side 257 and side 65,537 are refused.
  *
@@ -34,8 +35,8 @@ enum tangle_number {
     TANGLE_HOLD = 4,       /* the hold isn't one of the four letters N, L, R, B */
     TANGLE_SIZE = 5,       /* n is 0 or above 512 */
     TANGLE_LENGTH = 6,     /* the length isn't 12n-2; in packing, a list has the wrong length */
-    TANGLE_LEFT_ROW = 7,   /* a left row breaks the tree rule */
-    TANGLE_RIGHT_ROW = 8,  /* a right row breaks the tree rule */
+    TANGLE_LEFT_ROW = 7,   /* a left row breaks the tree rule; the lowest that does is told beside it */
+    TANGLE_RIGHT_ROW = 8,  /* a right row breaks the tree rule; likewise */
     TANGLE_LINKS = 9,      /* the links aren't one-to-one on 1 to n */
     TANGLE_LAYOUT = 10,    /* a layout byte isn't 0 or 1 */
     TANGLE_HELD = 11,      /* the call frees a held side, runs while a side is held, or has a hand entry for a held
@@ -64,19 +65,23 @@ enum tangle_limit {
     TANGLE_MOST_HANDS = 1024
 };
 
-/* ---- answers */
+/* ---- answers; each begins with the refusal and its row */
 
 struct tangle_refusal {
     uint32_t refusal;
+    uint32_t row;
 };
 
 struct tangle_count {
     uint32_t refusal;
+    uint32_t row;
     uint32_t count; /* at most 130,816 */
 };
 
+/* Four bytes that no number takes stand before the ratio: it begins at byte 24 of 32. */
 struct tangle_entanglement {
     uint32_t refusal;
+    uint32_t row;
     uint32_t displacement; /* D; 0 for a single leaf */
     uint32_t worst;        /* W; 0 for a single leaf */
     uint32_t has_ratio;    /* 1, or 0 for a single leaf */
@@ -85,12 +90,14 @@ struct tangle_entanglement {
 
 struct tangle_free {
     uint32_t refusal;
+    uint32_t row;
     uint32_t before; /* the count before, and after */
     uint32_t after;
 };
 
 struct tangle_run {
     uint32_t refusal;
+    uint32_t row;
     uint32_t first;   /* the first count, and the last */
     uint32_t last;
     uint32_t turns;   /* freeings carried out, those without gain included */
@@ -99,12 +106,14 @@ struct tangle_run {
 
 struct tangle_better {
     uint32_t refusal;
+    uint32_t row;
     uint32_t which;  /* TANGLE_FIRST or TANGLE_SECOND */
     uint32_t length; /* n: the better order is the first n entries of that one */
 };
 
 struct tangle_unpack {
     uint32_t refusal;
+    uint32_t row;
     uint32_t hold; /* one of the four letters */
     uint32_t n;
 };

@@ -1,19 +1,21 @@
-/* Checks the thirteen calls for C against docs/CALLS.md: its examples, every refusal, in the order of tests, numbers
- * wider than 8 and 16 bits, that a refused call changes no byte, and that none writes beyond what it was lent. Numbers
- * are literals, the customer's or worked out by hand. Prints each check that failed; ends with 0 only if none did.
+/* Checks the thirteen calls for C against docs/CALLS.md: its examples, every refusal, in the order of tests, the row
+ * beside 7 and 8 and none beside another number, numbers wider than 8 and 16 bits, that a refused call changes no byte,
+ * and that none writes beyond what it was lent. Numbers are literals, the customer's or worked out by hand. Prints each
+ * check that failed; ends with 0 only if none did.
  */
 #include <stdio.h>
 #include <string.h>
 
 #include "tangle.h"
 
-_Static_assert(sizeof(struct tangle_count) == 8, "two numbers of 32 bits");
-_Static_assert(sizeof(struct tangle_free) == 12, "three");
-_Static_assert(sizeof(struct tangle_run) == 20, "five");
-_Static_assert(sizeof(struct tangle_entanglement) == 24, "four, and a double");
-_Static_assert(offsetof(struct tangle_entanglement, ratio) == 16, "the double is last");
-_Static_assert(sizeof(struct tangle_refusal) == 4, "one");
-_Static_assert(sizeof(struct tangle_better) == 12 && sizeof(struct tangle_unpack) == 12, "three");
+_Static_assert(sizeof(struct tangle_refusal) == 8 && offsetof(struct tangle_refusal, row) == 4, "two, of 32 bits");
+_Static_assert(sizeof(struct tangle_count) == 12 && offsetof(struct tangle_count, row) == 4, "three");
+_Static_assert(sizeof(struct tangle_free) == 16 && offsetof(struct tangle_free, row) == 4, "four");
+_Static_assert(sizeof(struct tangle_run) == 24 && offsetof(struct tangle_run, row) == 4, "six");
+_Static_assert(sizeof(struct tangle_better) == 16 && offsetof(struct tangle_better, row) == 4, "four");
+_Static_assert(sizeof(struct tangle_unpack) == 16 && offsetof(struct tangle_unpack, row) == 4, "four");
+_Static_assert(sizeof(struct tangle_entanglement) == 32 && offsetof(struct tangle_entanglement, row) == 4, "five");
+_Static_assert(offsetof(struct tangle_entanglement, ratio) == 24, "the double is last, after 4 bytes of padding");
 _Static_assert(sizeof(struct tangle_entry) == 8 && offsetof(struct tangle_entry, row) == 4, "two numbers of 32 bits");
 _Static_assert(TANGLE_ACCEPTED == 0 && TANGLE_SHORT == 1 && TANGLE_MARK == 2 && TANGLE_VERSION == 3, "docs/CALLS.md");
 _Static_assert(TANGLE_HOLD == 4 && TANGLE_SIZE == 5 && TANGLE_LENGTH == 6 && TANGLE_LEFT_ROW == 7, "docs/CALLS.md");
@@ -44,6 +46,16 @@ static void check(int line, const char *what, double got, double expected)
         return;
     failures++;
     printf("test.c:%d: %s is %.17g, not %.17g\n", line, what, got, expected);
+}
+
+/* The row that is expected beside 7 and 8. */
+static uint32_t bad_row;
+
+/* A call's refusal, and its row: 0 beside every number but 7 and 8. */
+static void told(int line, uint32_t refusal, uint32_t row, uint32_t expected)
+{
+    check(line, "refusal", refusal, expected);
+    check(line, "row", row, expected == 7 || expected == 8 ? bad_row : 0);
 }
 
 /* ---- records */
@@ -133,8 +145,11 @@ static void same_bytes(int line, const struct record *as)
 
 static void checked(int line, uint32_t refusal)
 {
+    struct tangle_refusal c;
+
     kept = r;
-    check(line, "refusal", tangle_check(bytes(), r.length).refusal, refusal);
+    c = tangle_check(bytes(), r.length);
+    told(line, c.refusal, c.row, refusal);
     same_bytes(line, &kept);
 }
 
@@ -145,9 +160,9 @@ static void count(int line, uint32_t refusal, uint32_t expected)
     kept = r;
     c = tangle_count(bytes(), r.length);
     p = tangle_pairs(bytes(), r.length);
-    check(line, "refusal", c.refusal, refusal);
+    told(line, c.refusal, c.row, refusal);
     check(line, "count", c.count, expected);
-    check(line, "refusal of pairs", p.refusal, refusal);
+    told(line, p.refusal, p.row, refusal);
     check(line, "count by pairs", p.count, expected);
     same_bytes(line, &kept);
 }
@@ -187,20 +202,25 @@ static void order(int line, uint32_t side, size_t lent, uint32_t refusal, const 
     static struct buffer out;
     uint16_t leaves[9];
     size_t n = strlen(digits);
+    struct tangle_refusal o;
 
     for (size_t i = 0; i < n; i++)
         leaves[i] = (uint16_t)(digits[i] - '0');
     kept = r;
     clear(&out);
-    check(line, "refusal", tangle_order(bytes(), r.length, side, places(&out), lent).refusal, refusal);
+    o = tangle_order(bytes(), r.length, side, places(&out), lent);
+    told(line, o.refusal, o.row, refusal);
     contains(line, &out, leaves, n * sizeof *leaves);
     same_bytes(line, &kept);
 }
 
 static void set_hold(int line, uint32_t letter, uint32_t refusal)
 {
+    struct tangle_refusal h;
+
     kept = r;
-    check(line, "refusal", tangle_hold(bytes(), r.length, letter).refusal, refusal);
+    h = tangle_hold(bytes(), r.length, letter);
+    told(line, h.refusal, h.row, refusal);
     if (refusal == 0)
         kept.room[FENCE + 5] = (uint8_t)letter;
     same_bytes(line, &kept);
@@ -212,6 +232,7 @@ static void better(int line, uint32_t side, const char *one, const char *two, ui
     uint16_t first[9], second[9];
     size_t k = strlen(one), m = strlen(two);
     struct tangle_better b;
+    struct tangle_refusal c;
 
     for (size_t i = 0; i < k; i++)
         first[i] = (uint16_t)(one[i] - '0');
@@ -219,10 +240,11 @@ static void better(int line, uint32_t side, const char *one, const char *two, ui
         second[i] = (uint16_t)(two[i] - '0');
     kept = r;
     b = tangle_better(bytes(), r.length, side, first, k, second, m);
-    check(line, "refusal", b.refusal, refusal);
+    told(line, b.refusal, b.row, refusal);
     check(line, "which", b.which, which);
     check(line, "length", b.length, refusal == 0 ? bytes()[6] * 256 + bytes()[7] : 0);
-    check(line, "check's refusal", tangle_better_check(bytes(), r.length, side, first, k, second, m).refusal, refusal);
+    c = tangle_better_check(bytes(), r.length, side, first, k, second, m);
+    told(line, c.refusal, c.row, refusal);
     same_bytes(line, &kept);
 }
 
@@ -232,7 +254,7 @@ static void free_side(int line, uint32_t side, uint32_t refusal, uint32_t before
 
     kept = r;
     f = tangle_free(bytes(), r.length, side);
-    check(line, "refusal", f.refusal, refusal);
+    told(line, f.refusal, f.row, refusal);
     check(line, "before", f.before, before);
     check(line, "after", f.after, after);
     same_outside(line);
@@ -247,7 +269,7 @@ static void run(int line, uint32_t allowance, uint32_t refusal, uint32_t first, 
 
     kept = r;
     t = tangle_run(bytes(), r.length, allowance);
-    check(line, "refusal", t.refusal, refusal);
+    told(line, t.refusal, t.row, refusal);
     check(line, "first", t.first, first);
     check(line, "last", t.last, last);
     check(line, "turns", t.turns, turns);
@@ -263,7 +285,7 @@ static void entanglement(int line, uint32_t refusal, uint32_t d, uint32_t w, uin
 
     kept = r;
     e = tangle_entanglement(bytes(), r.length);
-    check(line, "refusal", e.refusal, refusal);
+    told(line, e.refusal, e.row, refusal);
     check(line, "displacement", e.displacement, d);
     check(line, "worst", e.worst, w);
     check(line, "has_ratio", e.has_ratio, has_ratio);
@@ -279,7 +301,7 @@ static void hands(int line, size_t entries, uint32_t refusal)
 
     kept = r;
     h = tangle_hands(bytes(), r.length, list, entries);
-    check(line, "refusal", h.refusal, refusal);
+    told(line, h.refusal, h.row, refusal);
     same_outside(line);
     if (refusal != 0)
         same_bytes(line, &kept);
@@ -325,7 +347,7 @@ static void unpack_refused(int line, size_t n, int shortened, uint32_t refusal)
 
     kept = r;
     u = unpack(n, shortened);
-    check(line, "refusal", u.refusal, refusal);
+    told(line, u.refusal, u.row, refusal);
     check(line, "hold", u.hold, 0);
     check(line, "n", u.n, 0);
     contains(line, &parts.left, NULL, 0);
@@ -349,7 +371,7 @@ static void pack(int line, size_t n, uint32_t hold, uint32_t size, int longer, s
                     2 * (n - 1) + (longer == 2), places(&parts.links), n + (longer == 3),
                     layout_places(&parts.left_layout), n - 1 + (longer == 4), layout_places(&parts.right_layout),
                     n - 1 + (longer == 5), made.room + FENCE, lent);
-    check(line, "refusal", p.refusal, refusal);
+    told(line, p.refusal, p.row, refusal);
     check(line, "a packed byte differs",
           memcmp(made.room, refusal == 0 ? r.room : clean.room, sizeof made.room) != 0, 0);
 }
@@ -367,6 +389,13 @@ static void refused(int line, uint32_t number)
     free_side(line, TANGLE_LEFT, number, 0, 0);
     run(line, 2, number, 0, 0, 0, 0);
     hands(line, 0, number);
+}
+
+/* A record that every call refuses by 7 or 8, with this row. */
+static void refused_row(int line, uint32_t number, uint32_t row)
+{
+    bad_row = row;
+    refused(line, number);
 }
 
 /* The layout bytes, the left's and then the right's, are these; all others are as they were. */
@@ -473,15 +502,17 @@ static void examples_7_to_9(void)
 
     /* 9 */
     record('N', 3, twice, good, identity);
-    refused(__LINE__, 7);
+    refused_row(__LINE__, 7, 2);
     record('N', 3, good, twice, identity);
-    refused(__LINE__, 8);
+    refused_row(__LINE__, 8, 2);
     record('N', 3, above, good, identity);
-    refused(__LINE__, 7);
+    refused_row(__LINE__, 7, 1);
     record('N', 3, good, above, identity);
-    refused(__LINE__, 8);
+    refused_row(__LINE__, 8, 1);
     record('N', 3, above, twice, identity);
-    refused(__LINE__, 7);
+    refused_row(__LINE__, 7, 1);
+    record('N', 3, twice, above, identity);
+    refused_row(__LINE__, 7, 2);
 }
 
 static void examples_11_to_13(void)
@@ -567,6 +598,60 @@ static void records_refused(void)
     case2('B');
     bytes()[45] = 255;
     refused(__LINE__, 10);
+}
+
+/* Changes the upper child of a row of the record. */
+static void set_upper(uint32_t side, size_t row, uint16_t upper)
+{
+    size_t n = bytes()[6] * 256u + bytes()[7], at = side == TANGLE_LEFT ? 4 * row + 4 : 4 * n + 4 * row;
+
+    bytes()[at] = (uint8_t)(upper >> 8);
+    bytes()[at + 1] = (uint8_t)(upper & 255);
+}
+
+/* The lowest bad row is told, of the left if both sides have one, and before the faults that are tested later. */
+static void rows_refused(void)
+{
+    /* in each row of case 2's left: 0, the object that the row makes, its lower child, a number far above */
+    static const uint16_t no_upper[3][4] = {{0, 5, 2, 65535}, {0, 6, 5, 257}, {0, 7, 6, 1025}};
+    /* the first and the last of 511 rows; row 0 is none */
+    static const struct {
+        size_t left, right;
+        uint32_t number, row;
+    } ends[] = {{1, 0, 7, 1},     {511, 0, 7, 511}, {0, 1, 8, 1},
+                {0, 511, 8, 511}, {511, 1, 7, 511}, {1, 511, 7, 1}};
+
+    for (size_t row = 1; row <= 3; row++)
+        for (size_t i = 0; i < 4; i++) {
+            case2('N');
+            set_upper(TANGLE_LEFT, row, no_upper[row - 1][i]);
+            refused_row(__LINE__, 7, (uint32_t)row);
+        }
+    case2('N');
+    set_upper(TANGLE_LEFT, 1, 4); /* used again by row 3, which is the bad one */
+    refused_row(__LINE__, 7, 3);
+    set_upper(TANGLE_LEFT, 2, 0);
+    refused_row(__LINE__, 7, 2);
+    set_upper(TANGLE_RIGHT, 1, 0);
+    refused_row(__LINE__, 7, 2);
+    case2('B');
+    set_upper(TANGLE_RIGHT, 3, 1);
+    bytes()[32] = 9; /* a link */
+    bytes()[45] = 2; /* a layout byte */
+    refused_row(__LINE__, 8, 3);
+    set_upper(TANGLE_RIGHT, 2, 6);
+    refused_row(__LINE__, 8, 2);
+
+    for (size_t i = 0; i < sizeof ends / sizeof *ends; i++) {
+        deep(512, 0);
+        if (ends[i].left != 0)
+            set_upper(TANGLE_LEFT, ends[i].left, 2);
+        if (ends[i].right != 0)
+            set_upper(TANGLE_RIGHT, ends[i].right, 2);
+        refused_row(__LINE__, ends[i].number, ends[i].row);
+    }
+    set_upper(TANGLE_LEFT, 511, 2); /* beside row 1 */
+    refused_row(__LINE__, 7, 1);
 }
 
 /* A length and a number of entries whose low 16 bits would be accepted. */
@@ -722,7 +807,7 @@ static void parts_of_case2(void)
     set_hold(__LINE__, TANGLE_HOLD_LEFT, 0);
     kept = r;
     u = unpack(4, 0);
-    check(__LINE__, "refusal", u.refusal, 0);
+    told(__LINE__, u.refusal, u.row, 0);
     check(__LINE__, "hold", u.hold, 'L');
     check(__LINE__, "n", u.n, 4);
     contains(__LINE__, &parts.left, caterpillar, sizeof caterpillar);
@@ -755,10 +840,20 @@ static void parts_refused(void)
     places(&parts.links)[0] = 2;
     layout_places(&parts.left_layout)[2] = 2;
     layout_places(&parts.right_layout)[0] = 255;
+    bad_row = 1;
     pack(__LINE__, 4, 'N', 4, 0, 0, 7);
     places(&parts.left)[0] = 1;
+    places(&parts.left)[4] = 3; /* row 2 has it too */
+    bad_row = 3;
+    pack(__LINE__, 4, 'N', 4, 0, 0, 7);
+    places(&parts.left)[4] = 4;
+    bad_row = 1;
     pack(__LINE__, 4, 'N', 4, 0, 0, 8);
     places(&parts.right)[0] = 1;
+    places(&parts.right)[3] = 6; /* what row 2 makes */
+    bad_row = 2;
+    pack(__LINE__, 4, 'N', 4, 0, 0, 8);
+    places(&parts.right)[3] = 4;
     pack(__LINE__, 4, 'N', 4, 0, 0, 9);
     places(&parts.links)[0] = 1;
     pack(__LINE__, 4, 'N', 4, 0, 0, 10);
@@ -772,6 +867,14 @@ static void parts_refused(void)
     check(__LINE__, "refusal", unpack(512, 0).refusal, 0);
     pack(__LINE__, 512, 'N', 512, 0, TANGLE_MOST_BYTES, 0);
     pack(__LINE__, 512, 'N', 512, 0, TANGLE_MOST_BYTES - 1, 14);
+    bad_row = 511;
+    places(&parts.right)[1020] = 2;
+    pack(__LINE__, 512, 'N', 512, 0, TANGLE_MOST_BYTES, 8);
+    places(&parts.left)[1020] = 2;
+    pack(__LINE__, 512, 'N', 512, 0, TANGLE_MOST_BYTES, 7);
+    bad_row = 1;
+    places(&parts.left)[0] = 2;
+    pack(__LINE__, 512, 'N', 512, 0, TANGLE_MOST_BYTES, 7);
     record('R', 1, NULL, NULL, identity);
     check(__LINE__, "refusal", unpack(1, 0).refusal, 0);
     pack(__LINE__, 1, 'R', 1, 0, 10, 0);
@@ -815,6 +918,7 @@ int main(void)
     examples_7_to_9();
     examples_11_to_13();
     records_refused();
+    rows_refused();
     longer_than_16_bits();
     arguments_refused();
     hand_lists();

@@ -19,6 +19,7 @@ struct record {
     uint8_t bytes[TANGLE_MOST_BYTES + 1];
 };
 
+/* The words of a refusal; of 7 and 8 those after the row. */
 static const char *words(uint32_t refusal)
 {
     switch (refusal) {
@@ -28,8 +29,8 @@ static const char *words(uint32_t refusal)
     case TANGLE_HOLD: return "hold isn't one of the four letters";
     case TANGLE_SIZE: return "n is 0 or above 512";
     case TANGLE_LENGTH: return "length isn't 12n-2";
-    case TANGLE_LEFT_ROW: return "a left row breaks the tree rule";
-    case TANGLE_RIGHT_ROW: return "a right row breaks the tree rule";
+    case TANGLE_LEFT_ROW:
+    case TANGLE_RIGHT_ROW: return "breaks the tree rule";
     case TANGLE_LINKS: return "links aren't one-to-one on 1 to n";
     case TANGLE_LAYOUT: return "a layout byte isn't 0 or 1";
     case TANGLE_HELD:
@@ -45,11 +46,14 @@ static const char *words(uint32_t refusal)
 }
 
 /* Whether there is a refusal; if so, ends the line with it. */
-static int refused(uint32_t refusal)
+static int refused(uint32_t refusal, uint32_t row)
 {
     if (refusal == TANGLE_ACCEPTED)
         return 0;
-    printf("REFUSED %u, %s\n", (unsigned)refusal, words(refusal));
+    printf("REFUSED %u, ", (unsigned)refusal);
+    if (row != 0)
+        printf("%s row %u ", refusal == TANGLE_LEFT_ROW ? "left" : "right", (unsigned)row);
+    printf("%s\n", words(refusal));
     return 1;
 }
 
@@ -60,7 +64,7 @@ static int show_order(const struct record *r, uint32_t side, const char *name)
     struct tangle_refusal o = tangle_order(r->bytes, r->length, side, order, TANGLE_MOST_LEAVES);
 
     printf("%s order: ", name);
-    if (refused(o.refusal))
+    if (refused(o.refusal, o.row))
         return 1;
     for (int i = 0; i < r->bytes[6] * 256 + r->bytes[7]; i++)
         printf(i == 0 ? "%u" : " %u", (unsigned)order[i]);
@@ -73,7 +77,7 @@ static int show_crossings(const struct record *r)
     struct tangle_count c = tangle_count(r->bytes, r->length);
 
     printf("crossings: ");
-    if (refused(c.refusal))
+    if (refused(c.refusal, c.row))
         return 1;
     printf("%u\n", (unsigned)c.count);
     return 0;
@@ -84,7 +88,7 @@ static int show_entanglement(const struct record *r)
     struct tangle_entanglement e = tangle_entanglement(r->bytes, r->length);
 
     printf("entanglement: ");
-    if (refused(e.refusal))
+    if (refused(e.refusal, e.row))
         return 1;
     if (e.has_ratio)
         printf("%u of %u, ratio %.6f\n", (unsigned)e.displacement, (unsigned)e.worst, e.ratio);
@@ -99,7 +103,7 @@ static int show_free(struct record r, uint32_t side, const char *name)
     struct tangle_free f = tangle_free(r.bytes, r.length, side);
 
     printf("%s freed: ", name);
-    if (refused(f.refusal))
+    if (refused(f.refusal, f.row))
         return 1;
     printf("%u to %u\n", (unsigned)f.before, (unsigned)f.after);
     return 0;
@@ -110,7 +114,7 @@ static int show_run(struct record r)
     struct tangle_run t = tangle_run(r.bytes, r.length, TANGLE_MOST_TURNS);
 
     printf("run: ");
-    if (refused(t.refusal))
+    if (refused(t.refusal, t.row))
         return 1;
     printf("refusal %u, first %u, last %u, turns %u, settled %u\n", (unsigned)t.refusal, (unsigned)t.first,
            (unsigned)t.last, (unsigned)t.turns, (unsigned)t.settled);
@@ -123,10 +127,10 @@ static int show_hands(struct record r, const struct tangle_entry *list, size_t e
     struct tangle_count c;
 
     printf("by hand: ");
-    if (refused(h.refusal))
+    if (refused(h.refusal, h.row))
         return 1;
     c = tangle_count(r.bytes, r.length);
-    if (refused(c.refusal))
+    if (refused(c.refusal, c.row))
         return 1;
     printf("%u crossings\n", (unsigned)c.count);
     return 0;

@@ -2,24 +2,26 @@
 use Prim.Native.Nat.{ℕ, _≤_, _<_}
 use mathlib.Core.Path.{_≡_, refl, sym, ap, _∙_}
 use mathlib.Core.Logic.{_≢_}
-use mathlib.Core.Bool.{Bool, true, false, cond}
+use mathlib.Core.Bool.{Bool, true, false, cond, not}
 use mathlib.Core.List.{List, []}
 use native.Mathlib.Omega.{arith}
 use borrow.Author.Tests.{le-leb, lt-leb, eqb-true, eq-eqb, ne-eqb}
 use lib.Dec.{eqb, lit≤}
 use lib.ListN.{length, take}
-use Rattle.record_fields.specs.Fields.{sizeOf}
+use Rattle.record_fields.specs.Fields.{sizeOf, parts}
 use Rattle.record_fields.specs.Refusals.{refusal}
 use Rattle.record_fields.specs.Refused.{refused, accepted, orZero}
+use Rattle.record_fields.specs.Told.{toldOf, OwnRow}
 use Rattle.record_fields.specs.Meaning.{tableOf}
 use Rattle.record_fields.proofs.Acceptance.{else-first, none-both}
 use Rattle.record_fields.proofs.Heading.{none-first, not-no}
+use Rattle.record_fields.proofs.Told.{told-none, alone-when, alone-0, own-when, own-then}
 use Rattle.record_arrays.specs.Sides.{RecordOver, isSide, sideOf}
 use Rattle.record_fields.specs.declared.refusal.Refusal.{Refusal}
 use Rattle.calls_better.specs.declared.answers.Compared.{Compared}
 use Rattle.calls_better.specs.Refusals.{isOrder, betterRefusal}
 use Rattle.calls_better.specs.Calls.{countWith, firstBetter, betterPart, betterWhich, Address, Betters}
-use Rattle.calls_better.specs.Calls.{compareTold, Compares, BetterChecks}
+use Rattle.calls_better.specs.Calls.{Compares, BetterChecks}
 use Rattle.record_arrays.proofs.AsItStands.{over-n}
 use Rattle.calls_better.proofs.Proposed.{order-within}
 
@@ -84,24 +86,34 @@ module _ (s : List ℕ) (side : ℕ) (first second : List ℕ) where
 
   -- ---- the statements
 
-  pub better-checked : {k : ℕ} {told : Refusal} → told ≡ refused k → k ≡ betterRefusal s side first second →
-      BetterChecks s side first second told
-  better-checked t e = record { answers = t ∙ ap refused e }
+  -- a row that is told is the record's
+  pub compare-own : {k : ℕ} → k ≡ betterRefusal s side first second → OwnRow s k
+  unfolding betterRefusal
+  compare-own e =
+      let t = tableOf s .tree (sideOf side) in
+      rw e (own-when s (not (isSide side)) 13 refl (own-then s
+      (alone-when (not (isOrder (sizeOf s) t first)) 16 refl (alone-when (not (isOrder (sizeOf s) t second)) 16 refl alone-0))))
 
-  pub compare-refused : {k : ℕ} {told : Compared} → told ≡ compareTold k 0 0 → k ≡ betterRefusal s side first second → k ≢ 0 →
-      Compares s side first second told
+  pub better-checked : {k : ℕ} {told : Refusal} → told ≡ toldOf s k → k ≡ betterRefusal s side first second →
+      BetterChecks s side first second told
+  better-checked t e = record { answers = t ∙ ap (toldOf s) e }
+
+  pub compare-refused : {k : ℕ} {told : Refusal} → told ≡ toldOf s k → k ≡ betterRefusal s side first second → k ≢ 0 →
+      Compares s side first second (record { refusal = told; which = 0; length = 0 })
   unfolding betterWhich
-  compare-refused {k} t e h = record { answers = t ∙ rw (← e, ne-eqb k 0 h) refl }
+  compare-refused {k} t e h = record { answers = rw (t, ← e, ne-eqb k 0 h) refl }
 
   module _ {n a b : ℕ} (none : betterRefusal s side first second ≡ 0) (e : n ≡ sizeOf s)
       (p : a ≡ countWith s (sideOf side) first) (q : b ≡ countWith s (sideOf side) second) where
-    pub compare-first : {told : Compared} → told ≡ compareTold 0 1 n → a ≤ b → Compares s side first second told
+    pub compare-first : {told : Refusal} → told ≡ refused 0 → a ≤ b →
+        Compares s side first second (record { refusal = told; which = 1; length = n })
     unfolding betterWhich
-    compare-first t h = record { answers = t ∙ rw (none, ← p, ← q, le-leb a b h, e) refl }
+    compare-first t h = record { answers = rw (t ∙ told-none (parts s) none, none, ← p, ← q, le-leb a b h, e) refl }
 
-    pub compare-second : {told : Compared} → told ≡ compareTold 0 2 n → b < a → Compares s side first second told
+    pub compare-second : {told : Refusal} → told ≡ refused 0 → b < a →
+        Compares s side first second (record { refusal = told; which = 2; length = n })
     unfolding betterWhich
-    compare-second t h = record { answers = t ∙ rw (none, ← p, ← q, lt-leb a b h, e) refl }
+    compare-second t h = record { answers = rw (t ∙ told-none (parts s) none, none, ← p, ← q, lt-leb a b h, e) refl }
 
   -- from the answer in numbers to the part: so many entries of that order, none of the first where anything is refused
   module _ {c : Compared} (h : Compares s side first second c) where

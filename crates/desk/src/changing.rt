@@ -12,7 +12,7 @@ use desk_words::words::word;
 // NUMBER BEFORE AFTER RECORD
 fn freed(answer: Freed, s: &[u8]) {
     let refusal = answer.refusal;
-    printing::entry(refusal.number);
+    printing::refusal(refusal.number, refusal.row);
     printing::next(answer.before);
     printing::next(answer.after);
     next_bytes(s);
@@ -32,7 +32,7 @@ pub fn free(line: &[u8], s: &mut [u8]) {
 // NUMBER FIRST LAST TURNS SETTLED RECORD
 fn ran(answer: Ran, s: &[u8]) {
     let refusal = answer.refusal;
-    printing::entry(refusal.number);
+    printing::refusal(refusal.number, refusal.row);
     printing::next(answer.first);
     printing::next(answer.last);
     printing::next(answer.turns);
@@ -59,7 +59,7 @@ pub fn hands(line: &[u8], s: &mut [u8]) {
         return no_call();
     }
     let answer = calls_hands::hands(s, &list[..n]);
-    done(answer.number, s)
+    done(answer.number, answer.row, s)
 }
 
 // hold RECORD LETTER -> NUMBER RECORD
@@ -69,5 +69,5 @@ pub fn hold(line: &[u8], s: &mut [u8]) {
         return no_call();
     }
     let answer = record::set_hold(s, letter as u8);
-    done(answer.number, s)
+    done(answer.number, answer.row, s)
 }

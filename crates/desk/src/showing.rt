@@ -12,22 +12,22 @@ use desk_words::spelling::next_list;
 use desk_words::spelling::no_call;
 use desk_words::words::word;
 
-// NUMBER
-fn only(number: u16) {
-    printing::entry(number);
+// NUMBER, which for 7 and 8 is followed by the row, here and in every answer.
+fn only(number: u16, row: u16) {
+    printing::refusal(number, row);
     printing::end();
 }
 
 // check RECORD -> NUMBER
 pub fn check(s: &[u8]) {
     let found = record::check(s);
-    only(found.number)
+    only(found.number, found.row)
 }
 
 // NUMBER OUT
 fn ordered(s: &[u8], side: u16, xs: &mut [u16]) {
     let done = calls_show::order(s, side, xs);
-    printing::entry(done.number);
+    printing::refusal(done.number, done.row);
     next_list(xs);
     printing::end();
 }
@@ -48,7 +48,7 @@ pub fn order(line: &[u8], s: &[u8], xs: &mut [u16]) {
 // NUMBER COUNT
 fn counted(answer: Counted) {
     let refusal = answer.refusal;
-    printing::entry(refusal.number);
+    printing::refusal(refusal.number, refusal.row);
     printing::next(answer.count);
     printing::end();
 }
@@ -64,8 +64,8 @@ pub fn pairs(s: &[u8]) {
 }
 
 // NUMBER 0 0 none
-fn no_ratio(number: u16) {
-    printing::entry(number);
+fn no_ratio(number: u16, row: u16) {
+    printing::refusal(number, row);
     printing::text(b" 0 0 none\n")
 }
 
@@ -92,8 +92,8 @@ fn ratio(d: u32, w: u32, x: f64) {
 pub fn entanglement(s: &[u8]) {
     match calls_show::entanglement(s) {
         Entangled::Ratio(d, w, x) => ratio(d, w, x),
-        Entangled::NoRatio => no_ratio(0),
-        Entangled::Refused(refusal) => no_ratio(refusal.number),
+        Entangled::NoRatio => no_ratio(0, 0),
+        Entangled::Refused(refusal) => no_ratio(refusal.number, refusal.row),
     }
 }
 
@@ -120,7 +120,7 @@ pub fn better(line: &[u8], s: &[u8], xs: &mut [u16], check: bool) {
 fn compared<'a>(check: bool, s: &[u8], side: u16, first: &'a [u16], second: &'a [u16]) {
     if check {
         let found = calls_better::better_check(s, side, first, second);
-        return only(found.number);
+        return only(found.number, found.row);
     }
     list(calls_better::better(s, side, first, second));
     printing::end();

@@ -37,7 +37,7 @@ fn fit(a: usize, b: usize, c: usize, d: usize, e: usize) -> bool
 // NUMBER HOLD N
 fn heading(answer: Unpacked) {
     let refusal = answer.refusal;
-    printing::entry(refusal.number);
+    printing::refusal(refusal.number, refusal.row);
     printing::next(answer.hold as u32);
     printing::next_entry(answer.n)
 }
@@ -146,5 +146,5 @@ fn pack_layouts(
         &rightlay[..b],
         out,
     );
-    done(packed.number, out)
+    done(packed.number, packed.row, out)
 }

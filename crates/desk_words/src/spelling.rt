@@ -59,9 +59,9 @@ pub fn next_bytes(s: &[u8]) {
     digits(&s[from..]);
 }
 
-// A number, bytes and a line feed.
-pub fn done(number: u16, s: &[u8]) {
-    printing::entry(number);
+// A refusal's number and row, bytes and a line feed.
+pub fn done(number: u16, row: u16, s: &[u8]) {
+    printing::refusal(number, row);
     next_bytes(s);
     printing::end();
 }

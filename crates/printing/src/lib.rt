@@ -31,6 +31,14 @@ pub fn next_entry(x: u16) {
     next(x as u32);
 }
 
+// A refusal: its number, and its row if it has one.
+pub fn refusal(number: u16, row: u16) {
+    entry(number);
+    if row != 0 {
+        next_entry(row);
+    }
+}
+
 // A line feed.
 pub fn end() {
     io::write_all(1, b"\n");

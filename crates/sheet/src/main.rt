@@ -1,16 +1,18 @@
 // The sheet of one record: reads it from standard input, shows it as it stands, runs it with the largest allowance and
-// shows it afterwards. A bad record prints only `REFUSED` and its number, a held one its first five lines and
+// shows it afterwards. A bad record prints only `REFUSED` and its refusal, a held one its first five lines and
 // `REFUSED 11`.
 use calls_show::answers::Entangled;
 use calls_turns::answers::Ran;
 use record::reading::Header;
 use record::reading::Reading;
 use record_fields::fields::MOST_TURNS;
+use record_fields::refusal::Refusal;
+use record_fields::refusal::refused as no_refusal;
 
-// `REFUSED` and a refusal's number.
-fn refused(number: u16) {
-    printing::text(b"REFUSED");
-    printing::next_entry(number);
+// `REFUSED`, a refusal's number, and the bad row of 7 and 8.
+fn refused(refusal: Refusal) {
+    printing::text(b"REFUSED ");
+    printing::refusal(refusal.number, refusal.row);
     printing::end();
 }
 
@@ -82,11 +84,11 @@ fn turns(ran: Ran) {
     printing::end();
 }
 
-// The refusal that a reading found, or 0.
-fn number_in(reading: Reading) -> u16 {
+// The refusal that a reading found, with number 0 where it found none.
+fn refusal_in(reading: Reading) -> Refusal {
     match reading {
-        Reading::Accepted(_header) => 0,
-        Reading::Refused(refusal) => refusal.number,
+        Reading::Accepted(_header) => no_refusal(0),
+        Reading::Refused(refusal) => refusal,
     }
 }
 
@@ -94,7 +96,7 @@ fn number_in(reading: Reading) -> u16 {
 fn sheet(s: &mut [u8]) {
     let reading = record::read(s);
     let Reading::Accepted(header) = reading else {
-        return refused(number_in(reading));
+        return refused(refusal_in(reading));
     };
     let n = header.n;
     heading(header);
@@ -103,7 +105,7 @@ fn sheet(s: &mut [u8]) {
     let ran = calls_turns::run(s, MOST_TURNS);
     let refusal = ran.refusal;
     if refusal.number != 0 {
-        return refused(refusal.number);
+        return refused(refusal);
     }
     turns(ran);
     orders(s, n);

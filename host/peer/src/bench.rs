@@ -5,6 +5,7 @@ use crate::crossings;
 use crate::firmware::{self, Entanglement, Run};
 use crate::made::{case_2, example, Made};
 use crate::record::{self, Side};
+use crate::refusals::told;
 
 const MOST_TURNS: u32 = 130_818;
 
@@ -124,9 +125,9 @@ fn example_8() {
 #[test]
 fn example_9() {
     let good = [1, 2, 4, 3];
-    for bad in [[1, 2, 1, 3], [1, 5, 2, 3]] {
-        assert_eq!(firmware::check(&example(&bad, &good).bytes()), 7);
-        assert_eq!(firmware::check(&example(&good, &bad).bytes()), 8);
+    for (bad, row) in [([1, 2, 1, 3], 2), ([1, 5, 2, 3], 1)] {
+        assert_eq!(told(&firmware::check(&example(&bad, &good).bytes())), format!("7 {row}"));
+        assert_eq!(told(&firmware::check(&example(&good, &bad).bytes())), format!("8 {row}"));
     }
 }
 
@@ -140,21 +141,21 @@ fn example_10() {
 fn example_11() {
     let mut record = case_2();
     record.hold = b'L';
-    assert_eq!(firmware::free(&mut record.bytes(), 1), Err(11));
+    assert_eq!(told(&firmware::free(&mut record.bytes(), 1)), "11");
     assert!(firmware::free(&mut record.bytes(), 2).is_ok());
-    assert_eq!(firmware::run(&mut record.bytes(), MOST_TURNS), Err(11));
+    assert_eq!(told(&firmware::run(&mut record.bytes(), MOST_TURNS)), "11");
 }
 
 #[test]
 fn example_12() {
     let most = backwards();
     assert_eq!(most.bytes().len(), 6_142);
-    assert_eq!(firmware::check(&most.bytes()), 0);
+    assert_eq!(told(&firmware::check(&most.bytes())), "0");
     let mut more = most.clone();
     more.n = 513;
-    assert_eq!(firmware::check(&more.bytes()), 5);
+    assert_eq!(told(&firmware::check(&more.bytes())), "5");
     assert!(firmware::run(&mut case_2().bytes(), 130_818).is_ok());
-    assert_eq!(firmware::run(&mut case_2().bytes(), 130_819), Err(12));
+    assert_eq!(told(&firmware::run(&mut case_2().bytes(), 130_819)), "12");
 }
 
 #[test]
@@ -167,6 +168,6 @@ fn example_13() {
 #[test]
 fn a_zeroed_record_is_refused_2() {
     for length in 0..60 {
-        assert_eq!(firmware::check(&vec![0; length]), if length < 8 { 1 } else { 2 });
+        assert_eq!(told(&firmware::check(&vec![0; length])), if length < 8 { "1" } else { "2" });
     }
 }

@@ -4,6 +4,7 @@
 
 use crate::firmware;
 use crate::record::{self, Buffers, Parts};
+use crate::refusals::{told, Refusal};
 
 pub const MOST_BYTES: usize = 1_048_576;
 
@@ -136,23 +137,18 @@ pub fn commas(list: &[u16]) -> String {
     list.iter().map(|number| number.to_string()).collect::<Vec<_>>().join(",")
 }
 
-/// The refusal, or 0.
-fn refusal<T>(result: &Result<T, u16>) -> u16 {
-    *result.as_ref().err().unwrap_or(&0)
-}
-
-fn count_answer(result: Result<u32, u16>) -> String {
-    format!("{} {}", refusal(&result), result.unwrap_or(0))
+fn count_answer(result: Result<u32, Refusal>) -> String {
+    format!("{} {}", told(&result), result.unwrap_or(0))
 }
 
 fn order_answer(record: &[u8], side: u16, mut out: Vec<u16>) -> String {
     let result = firmware::order(record, side, &mut out);
-    format!("{} {}", refusal(&result), commas(&out))
+    format!("{} {}", told(&result), commas(&out))
 }
 
 fn entanglement_answer(record: &[u8]) -> String {
     match firmware::entanglement(record) {
-        Err(number) => format!("{number} 0 0 none"),
+        Err(refusal) => format!("{refusal} 0 0 none"),
         Ok(measure) => {
             let ratio = measure.ratio.map(|ratio| format!("{:016x}", ratio.to_bits()));
             format!("0 {} {} {}", measure.d, measure.w, ratio.unwrap_or("none".to_string()))
@@ -163,12 +159,12 @@ fn entanglement_answer(record: &[u8]) -> String {
 fn free_answer(mut record: Vec<u8>, side: u16) -> String {
     let result = firmware::free(&mut record, side);
     let (before, after) = result.unwrap_or((0, 0));
-    format!("{} {before} {after} {}", refusal(&result), hex(&record))
+    format!("{} {before} {after} {}", told(&result), hex(&record))
 }
 
 fn run_answer(mut record: Vec<u8>, allowance: u32) -> String {
     match firmware::run(&mut record, allowance) {
-        Err(number) => format!("{number} 0 0 0 0 {}", hex(&record)),
+        Err(refusal) => format!("{refusal} 0 0 0 0 {}", hex(&record)),
         Ok(run) => {
             let settled = run.settled as u8;
             format!("0 {} {} {} {settled} {}", run.first, run.last, run.turns, hex(&record))
@@ -178,12 +174,12 @@ fn run_answer(mut record: Vec<u8>, allowance: u32) -> String {
 
 fn hands_answer(mut record: Vec<u8>, entries: &[(u16, u16)]) -> String {
     let result = firmware::hands(&mut record, entries);
-    format!("{} {}", refusal(&result), hex(&record))
+    format!("{} {}", told(&result), hex(&record))
 }
 
 fn hold_answer(mut record: Vec<u8>, letter: u8) -> String {
-    let number = record::set_hold(&mut record, letter);
-    format!("{number} {}", hex(&record))
+    let result = record::set_hold(&mut record, letter);
+    format!("{} {}", told(&result), hex(&record))
 }
 
 fn pack_answer(hold: u8, n: u16, numbers: [Vec<u16>; 3], layouts: [Vec<u8>; 2], mut out: Vec<u8>) -> String {
@@ -194,8 +190,8 @@ fn pack_answer(hold: u8, n: u16, numbers: [Vec<u16>; 3], layouts: [Vec<u8>; 2], 
         left_layout: &layouts[0],
         right_layout: &layouts[1],
     };
-    let number = record::pack(hold, n, &parts, &mut out);
-    format!("{number} {}", hex(&out))
+    let result = record::pack(hold, n, &parts, &mut out);
+    format!("{} {}", told(&result), hex(&out))
 }
 
 fn unpack_answer(record: &[u8], numbers: [Vec<u16>; 3], layouts: [Vec<u8>; 2]) -> String {
@@ -206,7 +202,7 @@ fn unpack_answer(record: &[u8], numbers: [Vec<u16>; 3], layouts: [Vec<u8>; 2]) -
     let (hold, n) = result.unwrap_or((0, 0));
     let lists = [&buffers.left, &buffers.right, &buffers.links].map(|list| commas(list)).join(" ");
     let layouts = [&buffers.left_layout, &buffers.right_layout].map(|bytes| hex(bytes)).join(" ");
-    format!("{} {hold} {n} {lists} {layouts}", refusal(&result))
+    format!("{} {hold} {n} {lists} {layouts}", told(&result))
 }
 
 /// The answer to a line without its line feed.
@@ -215,7 +211,7 @@ pub fn answer(line: &[u8]) -> String {
         return "?".to_string();
     };
     match call {
-        Call::Check(record) => firmware::check(&record).to_string(),
+        Call::Check(record) => told(&firmware::check(&record)),
         Call::Order(record, side, out) => order_answer(&record, side, out),
         Call::Count(record) => count_answer(firmware::count(&record)),
         Call::Pairs(record) => count_answer(firmware::pairs(&record)),
@@ -224,7 +220,7 @@ pub fn answer(line: &[u8]) -> String {
         Call::Run(record, allowance) => run_answer(record, allowance),
         Call::Hands(record, entries) => hands_answer(record, &entries),
         Call::Better(record, side, x, y) => commas(firmware::better(&record, side, &x, &y)),
-        Call::BetterCheck(record, side, x, y) => firmware::better_check(&record, side, &x, &y).to_string(),
+        Call::BetterCheck(record, side, x, y) => told(&firmware::better_check(&record, side, &x, &y)),
         Call::Hold(record, letter) => hold_answer(record, letter),
         Call::Pack(hold, n, numbers, layouts, out) => pack_answer(hold, n, numbers, layouts, out),
         Call::Unpack(record, numbers, layouts) => unpack_answer(&record, numbers, layouts),
@@ -246,6 +242,8 @@ pub fn lines(input: &[u8]) -> Vec<&[u8]> {
 #[cfg(test)]
 mod tests {
     use super::*;
+    use crate::edges;
+    use crate::made;
 
     #[test]
     fn numbers_of_any_number_of_digits() {
@@ -288,6 +286,61 @@ mod tests {
         }
         assert_eq!(answer(b"free - 65535"), "13 0 0 -");
         assert_eq!(answer(b"entanglement -"), "1 0 0 none");
+    }
+
+    #[test]
+    fn the_row_of_every_call() {
+        let mut made = made::case_2();
+        made.left[5] = 3;
+        made.right[0] = 0;
+        let calls = [
+            ("check R", "7 3"),
+            ("order R 1 9,9", "7 3 9,9"),
+            ("count R", "7 3 0"),
+            ("pairs R", "7 3 0"),
+            ("entanglement R", "7 3 0 0 none"),
+            ("free R 2", "7 3 0 0 R"),
+            ("run R 1", "7 3 0 0 0 0 R"),
+            ("hands R 1:1", "7 3 R"),
+            ("better R 1 1,2,3,4 1,2,3,4", "-"),
+            ("better_check R 1 1,2,3,4 1,2,3,4", "7 3"),
+            ("hold R 78", "7 3 R"),
+            ("pack 78 4 1,2,3,5,4,3 0,2,3,4,5,6 1,2,3,4 000000 000000 00", "7 3 00"),
+            ("pack 78 4 1,2,3,5,4,6 0,2,3,4,5,6 1,2,3,4 000000 000000 00", "8 1 00"),
+            ("unpack R 6,6 - 0 00 -", "7 3 0 0 6,6 - 0 00 -"),
+        ];
+        let record = hex(&made.bytes());
+        for (call, wanted) in calls {
+            assert_eq!(answer(call.replace('R', &record).as_bytes()), wanted.replace('R', &record));
+        }
+    }
+
+    /// How many words the answer has that carries no row; nothing for a call without a refusal.
+    fn words_answered(call: &Call) -> Option<usize> {
+        match call {
+            Call::Check(..) | Call::BetterCheck(..) => Some(1),
+            Call::Order(..) | Call::Count(..) | Call::Pairs(..) => Some(2),
+            Call::Hands(..) | Call::Hold(..) | Call::Pack(..) => Some(2),
+            Call::Entanglement(..) | Call::Free(..) => Some(4),
+            Call::Run(..) => Some(6),
+            Call::Better(..) => None,
+            Call::Unpack(..) => Some(8),
+        }
+    }
+
+    #[test]
+    fn a_row_stands_after_7_and_8_and_no_other_number() {
+        for line in edges::all() {
+            let line = line.as_bytes();
+            let Some(wanted) = call(line).as_ref().and_then(words_answered) else {
+                continue;
+            };
+            let answer = answer(line);
+            let words: Vec<&str> = answer.split(' ').collect();
+            let has_row = words[0] == "7" || words[0] == "8";
+            assert_eq!(words.len(), wanted + has_row as usize);
+            assert!(!has_row || (1..=511).contains(&words[1].parse().unwrap()));
+        }
     }
 
     #[test]

@@ -2,6 +2,7 @@
 // sides of every limit, every refusal of every call, and several faults at once so that the
 // order of the tests shows. They are the same for every seed.
 
+use crate::bad_rows;
 use crate::desk::hex;
 use crate::faults;
 use crate::lines;
@@ -20,6 +21,7 @@ const HOLDS: [u8; 4] = [b'N', b'L', b'R', b'B'];
 /// All fixed lines.
 pub fn all() -> Vec<String> {
     let mut all = examples();
+    all.extend(rows_that_break_the_rule());
     all.extend(turns_and_sides());
     all.extend(buffers());
     all.extend(hand_lists());
@@ -68,6 +70,16 @@ fn backwards() -> Made {
     let mut made = example(&rows, &rows);
     made.links.reverse();
     made
+}
+
+/// Over 512 leaves: the first row bad on the left, on the right, and with the last of the right.
+fn first_row_bad() -> Vec<bad_rows::Bad> {
+    bad_rows::in_row(&backwards(), 1)
+}
+
+/// The last row bad on the left, on the right, and with the first of the right.
+fn last_row_bad() -> Vec<bad_rows::Bad> {
+    bad_rows::in_row(&backwards(), 511)
 }
 
 /// Every call that takes a record, with arguments that are good for this made record.
@@ -121,6 +133,24 @@ fn examples() -> Vec<String> {
     calls.push(lines::plain("check", &more.bytes()));
     for length in 0..12 {
         calls.push(lines::plain("check", &vec![0; length]));
+    }
+    calls
+}
+
+/// Bad rows of small trees, and the first or the last of 511 rows bad: tested in a record's bytes
+/// and in the lists of packing.
+fn rows_that_break_the_rule() -> Vec<String> {
+    let mut calls = Vec::new();
+    for (made, _) in bad_rows::small() {
+        calls.push(lines::plain("check", &made.bytes()));
+        calls.push(lines::pack(made.n, &made, &[]));
+    }
+    for (made, _) in first_row_bad() {
+        calls.push(lines::plain("check", &made.bytes()));
+    }
+    for (made, _) in last_row_bad() {
+        calls.push(lines::plain("check", &made.bytes()));
+        calls.push(lines::pack(512, &made, &[]));
     }
     calls
 }
@@ -347,6 +377,9 @@ fn packing() -> Vec<String> {
     long.right_layout = vec![0; 5000];
     calls.push(lines::pack(4, &long, &[7; 9000]));
     calls.push(lines::pack(4, &case_2(), &[7; 20_000]));
+    for (made, _) in first_row_bad() {
+        calls.push(lines::pack(512, &made, &[7; 6_142]));
+    }
     calls
 }
 
@@ -356,7 +389,7 @@ fn packing_several_faults() -> Vec<String> {
         |made| made.hold = b'n',
         |made| made.n = 513,
         |made| made.links.push(5),
-        |made| made.left[0] = 0,
+        |made| made.left[3] = 0,
         |made| made.right[5] = 7,
         |made| made.links[3] = 1,
         |made| made.left_layout[2] = 2,
@@ -457,6 +490,10 @@ fn bad_records() -> Vec<String> {
         calls.push(lines::plain("check", &record));
         calls.push(lines::run(&record, 9));
     }
+    for (made, _) in first_row_bad().iter().chain(&last_row_bad()) {
+        let but_the_check = calls_on(&backwards(), &made.bytes()).into_iter().skip(1);
+        calls.extend(but_the_check);
+    }
     calls
 }
 
@@ -476,6 +513,7 @@ fn bad_records_and_arguments() -> Vec<String> {
         calls.push(lines::hold(&record, 0));
         calls.push(lines::hold(&record, b'N'));
         calls.push(lines::hands(&record, &[(0, 0)]));
+        calls.push(lines::hands(&record, &[(1, 4)]));
         let mut held = record.clone();
         if held.len() > 5 && held[5] == b'N' {
             held[5] = b'B';

@@ -54,14 +54,14 @@ pub fn single() -> Vec<Vec<u8>> {
     faulty
 }
 
-/// One change for each of the refusals 2 to 5 and 7 to 10, in this order.
+/// One change for each of the refusals 2 to 5 and 7 to 10, in this order. The bad rows are 2 and 3.
 const CHANGES: [(usize, u8); 9] = [
     (0, b'X'),
     (4, 2),
     (5, b'n'),
     (6, 2),
-    (LEFT_ROWS + 1, 0),
-    (RIGHT_ROWS + 1, 0),
+    (LEFT_ROWS + 5, 0),
+    (RIGHT_ROWS + 9, 0),
     (LINKS + 1, 0),
     (LEFT_LAYOUT, 2),
     (RIGHT_LAYOUT + 2, 2),
@@ -198,12 +198,13 @@ pub fn any_bytes(made: &Made, random: &mut Random) -> Vec<u8> {
 mod tests {
     use super::*;
     use crate::firmware;
+    use crate::refusals::told;
 
     #[test]
     fn the_fixed_faults_show_every_refusal() {
         assert_eq!(case_2().bytes().len(), 46);
-        let each: Vec<u16> = one_of_each().iter().map(|bytes| firmware::check(bytes)).collect();
-        assert_eq!(each, [2, 3, 4, 5, 7, 8, 9, 10, 10, 1, 6]);
-        assert!(single().iter().chain(&several()).all(|bytes| firmware::check(bytes) != 0));
+        let each: Vec<String> = one_of_each().iter().map(|bytes| told(&firmware::check(bytes))).collect();
+        assert_eq!(each.join(","), "2,3,4,5,7 2,8 3,9,10,10,1,6");
+        assert!(single().iter().chain(&several()).all(|bytes| firmware::check(bytes).is_err()));
     }
 }

@@ -4,19 +4,19 @@
 
 use crate::crossings;
 use crate::record::{self, Record, Side};
-use crate::refusals;
+use crate::refusals::{self, Refusal};
 use crate::tree;
 
 const MOST_TURNS: u32 = 130_818;
 const MOST_HANDS: usize = 1_024;
 
-/// 1 to 10, or 0.
-pub fn check(bytes: &[u8]) -> u16 {
-    record::read(bytes).err().unwrap_or(0)
+/// 1 to 10, or nothing.
+pub fn check(bytes: &[u8]) -> Result<(), Refusal> {
+    record::read(bytes).map(|_| ())
 }
 
-/// Writes a side's leaf order: 13, 1 to 10, 14, or 0.
-pub fn order(bytes: &[u8], side: u16, out: &mut [u16]) -> Result<(), u16> {
+/// Writes a side's leaf order: 13, 1 to 10, 14.
+pub fn order(bytes: &[u8], side: u16, out: &mut [u16]) -> Result<(), Refusal> {
     let side = Side::of(side)?;
     let record = record::read(bytes)?;
     if out.len() < record.n {
@@ -31,12 +31,12 @@ fn present_order(record: &Record, side: Side) -> Vec<u16> {
 }
 
 /// The count by seen places: 1 to 10, or the count.
-pub fn count(bytes: &[u8]) -> Result<u32, u16> {
+pub fn count(bytes: &[u8]) -> Result<u32, Refusal> {
     Ok(crossings::count_seen(&record::read(bytes)?))
 }
 
 /// The count pair by pair: 1 to 10, or the count.
-pub fn pairs(bytes: &[u8]) -> Result<u32, u16> {
+pub fn pairs(bytes: &[u8]) -> Result<u32, Refusal> {
     Ok(count_pairs(&record::read(bytes)?))
 }
 
@@ -52,7 +52,7 @@ pub struct Entanglement {
 }
 
 /// D, W and D divided by W, which is no ratio for one leaf: 1 to 10, or these.
-pub fn entanglement(bytes: &[u8]) -> Result<Entanglement, u16> {
+pub fn entanglement(bytes: &[u8]) -> Result<Entanglement, Refusal> {
     let record = record::read(bytes)?;
     let square = |link: &crossings::LinkPlaces| (link.left.abs_diff(link.right) as u64).pow(2);
     let d = crossings::present_places(&record).iter().map(square).sum();
@@ -74,7 +74,7 @@ fn free_side(record: &mut Record, side: Side) {
 }
 
 /// Frees a side: 13, 1 to 10, 11, or the count before and the count after.
-pub fn free(bytes: &mut [u8], side: u16) -> Result<(u32, u32), u16> {
+pub fn free(bytes: &mut [u8], side: u16) -> Result<(u32, u32), Refusal> {
     let side = Side::of(side)?;
     let mut record = record::read(bytes)?;
     if record.held(side) {
@@ -95,7 +95,7 @@ pub struct Run {
 }
 
 /// Frees left and right by turns: 12, 1 to 10, 11, or what the run reports.
-pub fn run(bytes: &mut [u8], allowance: u32) -> Result<Run, u16> {
+pub fn run(bytes: &mut [u8], allowance: u32) -> Result<Run, Refusal> {
     if allowance == 0 || allowance > MOST_TURNS {
         return Err(refusals::ALLOWANCE);
     }
@@ -126,7 +126,7 @@ fn take_turns(record: &mut Record, allowance: u32) -> Run {
 }
 
 /// Applies a hand list of sides and rows: 17, 1 to 10, then for the first bad entry 13, 15, 11.
-pub fn hands(bytes: &mut [u8], entries: &[(u16, u16)]) -> Result<(), u16> {
+pub fn hands(bytes: &mut [u8], entries: &[(u16, u16)]) -> Result<(), Refusal> {
     if entries.len() > MOST_HANDS {
         return Err(refusals::HANDS);
     }
@@ -146,7 +146,7 @@ pub fn hands(bytes: &mut [u8], entries: &[(u16, u16)]) -> Result<(), u16> {
 }
 
 /// The tests of better of two: 13, 1 to 10, 16; else the record and the side.
-fn test_better(bytes: &[u8], side: u16, first: &[u16], second: &[u16]) -> Result<(Record, Side), u16> {
+fn test_better(bytes: &[u8], side: u16, first: &[u16], second: &[u16]) -> Result<(Record, Side), Refusal> {
     let side = Side::of(side)?;
     let record = record::read(bytes)?;
     for order in [first, second] {
@@ -157,13 +157,13 @@ fn test_better(bytes: &[u8], side: u16, first: &[u16], second: &[u16]) -> Result
     Ok((record, side))
 }
 
-/// The number that better of two has for these inputs, or 0.
-pub fn better_check(bytes: &[u8], side: u16, first: &[u16], second: &[u16]) -> u16 {
-    test_better(bytes, side, first, second).err().unwrap_or(0)
+/// The refusal that better of two has for these inputs, or nothing.
+pub fn better_check(bytes: &[u8], side: u16, first: &[u16], second: &[u16]) -> Result<(), Refusal> {
+    test_better(bytes, side, first, second).map(|_| ())
 }
 
 /// The first n entries of the order that crosses less against the other side's present order,
-/// of the first on a tie; an empty part of the first where the check has a number.
+/// of the first on a tie; an empty part of the first where the check has a refusal.
 pub fn better<'a>(bytes: &[u8], side: u16, first: &'a [u16], second: &'a [u16]) -> &'a [u16] {
     let Ok((record, side)) = test_better(bytes, side, first, second) else {
         return &first[..0];

@@ -6,6 +6,7 @@
 //   peer record SHAPE N SEED   one good record; SHAPE is balanced, caterpillar or random
 //   peer speed CALL            nanoseconds per call; CALL is count, free or run
 
+mod bad_rows;
 #[cfg(test)]
 mod bench;
 mod calls;

@@ -5,7 +5,7 @@
 
 use crate::crossings::Seen;
 use crate::record::{self, Record, Side, MOST_LEAVES};
-use crate::refusals;
+use crate::refusals::{self, Refusal};
 use crate::tree;
 
 const MOST_TURNS: u32 = 130_818;
@@ -67,7 +67,7 @@ fn both(first: &(Seen, u32), second: &(Seen, u32)) -> (Seen, u32) {
 }
 
 /// As `firmware::free`.
-pub fn free(bytes: &mut [u8], side: u16) -> Result<(u32, u32), u16> {
+pub fn free(bytes: &mut [u8], side: u16) -> Result<(u32, u32), Refusal> {
     let side = Side::of(side)?;
     let mut record = record::read(bytes)?;
     if record.held(side) {
@@ -80,7 +80,7 @@ pub fn free(bytes: &mut [u8], side: u16) -> Result<(u32, u32), u16> {
 }
 
 /// As `firmware::run`; the answer is the first count, the last count, the turns and settled.
-pub fn run(bytes: &mut [u8], allowance: u32) -> Result<(u32, u32, u32, bool), u16> {
+pub fn run(bytes: &mut [u8], allowance: u32) -> Result<(u32, u32, u32, bool), Refusal> {
     if allowance == 0 || allowance > MOST_TURNS {
         return Err(refusals::ALLOWANCE);
     }

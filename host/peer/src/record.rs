@@ -3,7 +3,7 @@
 // files speak of rows, links and layouts only. Rows, links and layouts are kept in arrays
 // for the most leaves there can be; only the first n-1 or n places are in use.
 
-use crate::refusals;
+use crate::refusals::{self, Refusal};
 use crate::tree;
 
 pub const MOST_LEAVES: usize = 512;
@@ -23,7 +23,7 @@ pub enum Side {
 
 impl Side {
     /// The side of a number, or refusal 13.
-    pub fn of(number: u16) -> Result<Side, u16> {
+    pub fn of(number: u16) -> Result<Side, Refusal> {
         match number {
             1 => Ok(Side::Left),
             2 => Ok(Side::Right),
@@ -80,12 +80,12 @@ impl Record {
     }
 
     /// Refusals 7 to 10.
-    fn test_parts(&self) -> Result<(), u16> {
-        if !tree::is_tree(self.rows(Side::Left)) {
-            return Err(refusals::LEFT_ROW);
+    fn test_parts(&self) -> Result<(), Refusal> {
+        if let Some(row) = tree::lowest_bad_row(self.rows(Side::Left)) {
+            return Err(refusals::left_row(row));
         }
-        if !tree::is_tree(self.rows(Side::Right)) {
-            return Err(refusals::RIGHT_ROW);
+        if let Some(row) = tree::lowest_bad_row(self.rows(Side::Right)) {
+            return Err(refusals::right_row(row));
         }
         if !one_to_one(self.links()) {
             return Err(refusals::LINKS);
@@ -133,7 +133,7 @@ fn two_bytes(bytes: &[u8]) -> u16 {
 }
 
 /// Refusals 1 to 5; else the hold and n.
-fn read_head(bytes: &[u8]) -> Result<(u8, usize), u16> {
+fn read_head(bytes: &[u8]) -> Result<(u8, usize), Refusal> {
     if bytes.len() < HEAD {
         return Err(refusals::SHORT);
     }
@@ -155,7 +155,7 @@ fn read_head(bytes: &[u8]) -> Result<(u8, usize), u16> {
 }
 
 /// Refusals 1 to 10; else the record.
-pub fn read(bytes: &[u8]) -> Result<Record, u16> {
+pub fn read(bytes: &[u8]) -> Result<Record, Refusal> {
     let (hold, n) = read_head(bytes)?;
     if bytes.len() != length(n) {
         return Err(refusals::LENGTH);
@@ -182,16 +182,14 @@ fn read_rows(bytes: &[u8], rows: &mut [Row; MOST_LEAVES]) {
     }
 }
 
-/// Sets the hold: 4 for the letter, then 1 to 10; 0 if byte 5 has been set.
-pub fn set_hold(bytes: &mut [u8], letter: u8) -> u16 {
+/// Sets the hold, in byte 5: 4 for the letter, then 1 to 10.
+pub fn set_hold(bytes: &mut [u8], letter: u8) -> Result<(), Refusal> {
     if !is_hold(letter) {
-        return refusals::HOLD;
+        return Err(refusals::HOLD);
     }
-    if let Err(number) = read(bytes) {
-        return number;
-    }
+    read(bytes)?;
     bytes[HOLD_BYTE] = letter;
-    0
+    Ok(())
 }
 
 /// The five lists that packing takes. Rows are flat, upper then lower.
@@ -203,14 +201,11 @@ pub struct Parts<'a> {
     pub right_layout: &'a [u8],
 }
 
-/// Packs a record into the first 12n-2 bytes of `out`: 4, 5, 6, 7 to 10, 14, or 0.
-pub fn pack(hold: u8, n: u16, parts: &Parts, out: &mut [u8]) -> u16 {
-    let record = match test_packing(hold, n, parts) {
-        Ok(record) => record,
-        Err(number) => return number,
-    };
+/// Packs a record into the first 12n-2 bytes of `out`: 4, 5, 6, 7 to 10, 14.
+pub fn pack(hold: u8, n: u16, parts: &Parts, out: &mut [u8]) -> Result<(), Refusal> {
+    let record = test_packing(hold, n, parts)?;
     if out.len() < length(record.n) {
-        return refusals::BUFFER;
+        return Err(refusals::BUFFER);
     }
     let mut bytes = MARK.to_vec();
     bytes.extend(VERSION.to_be_bytes());
@@ -222,11 +217,11 @@ pub fn pack(hold: u8, n: u16, parts: &Parts, out: &mut [u8]) -> u16 {
     bytes.extend(parts.left_layout);
     bytes.extend(parts.right_layout);
     out[..bytes.len()].copy_from_slice(&bytes);
-    0
+    Ok(())
 }
 
 /// Packing's 4, 5, 6 and 7 to 10; else the record of these parts.
-fn test_packing(hold: u8, n: u16, parts: &Parts) -> Result<Record, u16> {
+fn test_packing(hold: u8, n: u16, parts: &Parts) -> Result<Record, Refusal> {
     let n = n as usize;
     if !is_hold(hold) {
         return Err(refusals::HOLD);
@@ -261,7 +256,7 @@ pub struct Buffers {
 }
 
 /// Unpacks a record into the first places of the buffers: 1 to 10, 14, or the hold and n.
-pub fn unpack(bytes: &[u8], buffers: &mut Buffers) -> Result<(u8, u16), u16> {
+pub fn unpack(bytes: &[u8], buffers: &mut Buffers) -> Result<(u8, u16), Refusal> {
     let record = read(bytes)?;
     let n = record.n;
     let rows_fit = buffers.left.len() >= 2 * (n - 1) && buffers.right.len() >= 2 * (n - 1);
@@ -302,7 +297,7 @@ mod tests {
             right_layout: &buffers.right_layout[..leaves - 1],
         };
         let mut out = vec![9; bytes.len() + 3];
-        assert_eq!(pack(hold, n, &parts, &mut out), 0);
+        assert_eq!(pack(hold, n, &parts, &mut out), Ok(()));
         assert_eq!(out.split_off(bytes.len()), [9, 9, 9]);
         out
     }
@@ -324,7 +319,7 @@ mod tests {
         for letter in 0..=255 {
             let mut after = before.clone();
             let good = b"NLRB".contains(&letter);
-            assert_eq!(set_hold(&mut after, letter), if good { 0 } else { 4 });
+            assert_eq!(set_hold(&mut after, letter), if good { Ok(()) } else { Err(refusals::HOLD) });
             let mut wanted = before.clone();
             wanted[5] = if good { letter } else { before[5] };
             assert_eq!(after, wanted);

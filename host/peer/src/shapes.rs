@@ -152,7 +152,7 @@ mod tests {
                 let flat = tree(shape, Exchange::AtRandom, n, &mut random);
                 let rows: Vec<[u16; 2]> = flat.chunks(2).map(|row| [row[0], row[1]]).collect();
                 assert_eq!(rows.len(), n - 1);
-                assert!(trees::is_tree(&rows));
+                assert_eq!(trees::lowest_bad_row(&rows), None);
             }
         }
     }

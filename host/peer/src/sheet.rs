@@ -1,9 +1,11 @@
 // What the program `sheet` prints for one record read from standard input: its first line, the
 // orders, the count, D and W; then the run with the whole allowance and the orders afterwards.
-// A bad record prints only its refusal, a held one its first five lines and then REFUSED 11.
+// A bad record prints only its refusal, with the row after a 7 or an 8; a held one its first five
+// lines and then REFUSED 11.
 
 use crate::firmware;
 use crate::record::{self, Record, Side};
+use crate::refusals::Refusal;
 use crate::tree;
 
 const ALLOWANCE: u32 = 130_818;
@@ -22,7 +24,7 @@ fn orders(record: &Record) -> String {
 }
 
 /// The first five lines.
-fn first_lines(bytes: &[u8]) -> Result<String, u16> {
+fn first_lines(bytes: &[u8]) -> Result<String, Refusal> {
     let record = record::read(bytes)?;
     let count = firmware::count(bytes)?;
     let measure = firmware::entanglement(bytes)?;
@@ -32,7 +34,7 @@ fn first_lines(bytes: &[u8]) -> Result<String, u16> {
 }
 
 /// The last three lines; the run changes the bytes.
-fn run_lines(bytes: &mut [u8]) -> Result<String, u16> {
+fn run_lines(bytes: &mut [u8]) -> Result<String, Refusal> {
     let run = firmware::run(bytes, ALLOWANCE)?;
     let letter = if run.settled { 'S' } else { 'U' };
     let turns = format!("T {} {letter} {}\n", run.turns, run.last);
@@ -41,10 +43,10 @@ fn run_lines(bytes: &mut [u8]) -> Result<String, u16> {
 
 /// Everything that `sheet` prints for this input.
 pub fn sheet(mut bytes: Vec<u8>) -> String {
-    let refused = |number: u16| format!("REFUSED {number}\n");
+    let refused = |refusal: Refusal| format!("REFUSED {refusal}\n");
     match first_lines(&bytes) {
         Ok(lines) => lines + &run_lines(&mut bytes).unwrap_or_else(refused),
-        Err(number) => refused(number),
+        Err(refusal) => refused(refusal),
     }
 }
 
@@ -76,6 +78,10 @@ mod tests {
         }
         record.links[0] = 2;
         assert_eq!(sheet(record.bytes()), "REFUSED 9\n");
+        record.right[3] = 1;
+        assert_eq!(sheet(record.bytes()), "REFUSED 8 2\n");
+        record.left[4] = 7;
+        assert_eq!(sheet(record.bytes()), "REFUSED 7 3\n");
         assert_eq!(sheet(Vec::new()), "REFUSED 1\n");
         assert_eq!(sheet(vec![0; 6_143]), "REFUSED 2\n");
         let mut long = made::case_2().bytes();

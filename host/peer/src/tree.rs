@@ -8,8 +8,9 @@ use crate::record::{Row, MOST_LEAVES};
 
 const MOST_OBJECTS: usize = 2 * MOST_LEAVES;
 
-/// Both children of row i are at least 1 and below n+i, and no object is used twice.
-pub fn is_tree(rows: &[Row]) -> bool {
+/// The lowest row that breaks the tree rule, if one does: a child of row i is 0 or not below n+i,
+/// or was used before, in an earlier row or as this row's upper child.
+pub fn lowest_bad_row(rows: &[Row]) -> Option<u16> {
     let n = rows.len() + 1;
     let mut used = [false; MOST_OBJECTS];
     for (index, row) in rows.iter().enumerate() {
@@ -17,12 +18,12 @@ pub fn is_tree(rows: &[Row]) -> bool {
         for &child in row {
             let child = child as usize;
             if child < 1 || child >= object || used[child] {
-                return false;
+                return Some(index as u16 + 1);
             }
             used[child] = true;
         }
     }
-    true
+    None
 }
 
 /// The leaf order of the root.
@@ -126,9 +127,62 @@ pub fn is_compatible(rows: &[Row], order: &[u16]) -> bool {
 #[cfg(test)]
 mod tests {
     use super::*;
+    use crate::faults;
     use crate::made;
     use crate::random::Random;
     use crate::record::{self, Side};
+
+    /// The rule for row i by itself, word for word.
+    fn breaks_the_rule(rows: &[Row], i: usize) -> bool {
+        let n = rows.len() + 1;
+        let [upper, lower] = rows[i - 1];
+        let out_of_range = |entry: u16| entry < 1 || entry as usize >= n + i;
+        let used_earlier = |entry: u16| rows[..i - 1].iter().any(|row| row.contains(&entry));
+        upper == lower || [upper, lower].iter().any(|&entry| out_of_range(entry) || used_earlier(entry))
+    }
+
+    #[test]
+    fn the_lowest_bad_row_is_the_first_that_breaks_the_rule() {
+        let mut random = Random::new(14);
+        let mut bad = 0;
+        for round in 0..3000 {
+            let n = if round % 100 == 0 { 512 } else { 1 + random.below(30) };
+            let mut made = made::any_record(n, &mut random);
+            for _ in 0..random.below(6) {
+                faults::damage_a_part(&mut made, &mut random);
+            }
+            let rows: Vec<Row> = made.left.chunks(2).map(|row| [row[0], row[1]]).collect();
+            let lowest = (1..n).find(|&i| breaks_the_rule(&rows, i));
+            assert_eq!(lowest_bad_row(&rows), lowest.map(|i| i as u16));
+            bad += lowest.is_some() as usize;
+        }
+        assert!((1000..2500).contains(&bad));
+    }
+
+    #[test]
+    fn bad_rows_worked_out_by_hand() {
+        let bad: [(&[Row], u16); 14] = [
+            (&[[1, 2], [1, 3]], 2),
+            (&[[1, 5], [2, 3]], 1),
+            (&[[1, 2], [3, 1]], 2),
+            (&[[2, 2], [4, 1]], 1),
+            (&[[1, 2], [3, 3]], 2),
+            (&[[0, 2], [4, 3]], 1),
+            (&[[1, 2], [3, 0]], 2),
+            (&[[4, 2], [1, 3]], 1),
+            (&[[1, 2], [5, 3]], 2),
+            (&[[1, 65535], [4, 3]], 1),
+            (&[[1, 4], [3, 5], [4, 6]], 3),
+            (&[[1, 2], [5, 5], [4, 6]], 2),
+            (&[[1, 2], [1, 2], [1, 2]], 2),
+            (&[[1, 2], [3, 8], [9, 0]], 2),
+        ];
+        for (rows, row) in bad {
+            assert_eq!(lowest_bad_row(rows), Some(row));
+        }
+        let good: [&[Row]; 4] = [&[], &[[2, 1]], &[[1, 2], [3, 5], [4, 6]], &[[1, 2], [3, 4], [5, 6]]];
+        assert!(good.iter().all(|rows| lowest_bad_row(rows).is_none()));
+    }
 
     #[test]
     fn both_ways_of_ordering_agree() {

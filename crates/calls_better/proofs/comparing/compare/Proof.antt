@@ -2,7 +2,7 @@
 use mathlib.Core.Path.{_≡_, refl, sym, _∙_}
 use Rattle.calls_better.specs.Refusals.{betterRefusal}
 use Rattle.record_arrays.proofs.AsItStands.{long-enough}
-use Rattle.calls_better.proofs.Compared.{Ready, ready, compare-refused, compare-first, compare-second}
+use Rattle.calls_better.proofs.Compared.{Ready, ready, compare-own, compare-refused, compare-first, compare-second}
 use borrow.Author.Needs.{needs}
 use Rattle.calls_better.proofs.comparing.compare.Statement.{statement}
 use Rattle.calls_better.proofs.comparing.compare.Tie as tie
@@ -22,13 +22,13 @@ at-start c = ready _ _ _ _ (none c) (c .size-of .ensures)
 comparing-number-requires : tie.Need-comparing-number-requires
 comparing-number-requires c κs = search needs
 
-tell-compared-requires : tie.Need-tell-compared-requires
-tell-compared-requires c κs = search needs
+told-requires : tie.Need-told-requires
+told-requires c κs = compare-own _ _ _ _ (c .before .comparing-number .ensures)
 
 returns : tie.Need-returns
 returns c =
     let t = c .before in
-    compare-refused _ _ _ _ (c .tell-compared .ensures) (t .before .comparing-number .ensures) (t .if1 .taken)
+    compare-refused _ _ _ _ (c .told .ensures) (t .before .comparing-number .ensures) (t .if1 .taken)
 
 size-of-requires : tie.Need-size-of-requires
 size-of-requires c κs = long-enough _ (ready _ _ _ _ (sym (c .before .comparing-number .ensures) ∙ c .if1 .left) refl .given .accepted)
@@ -39,8 +39,8 @@ count-with-requires c κs = let h = at-start c in (h .given, (h .sided, h .good-
 count-with-requires-2 : tie.Need-count-with-requires-2
 count-with-requires-2 c κs = let h = at-start (c .before) in (h .given, (h .sided, h .good-second))
 
-tell-compared-requires-2 : tie.Need-tell-compared-requires-2
-tell-compared-requires-2 c κs = search needs
+refused-requires : tie.Need-refused-requires
+refused-requires c κs = search needs
 
 returns-2 : tie.Need-returns-2
 returns-2 c =
@@ -48,11 +48,11 @@ returns-2 c =
     let b = t .before in
     let a = b .before in
     let v = a .before in
-    compare-second _ _ _ _ (none v) (v .size-of .ensures) (a .count-with .ensures) (b .count-with2 .ensures) (c .tell-compared2 .ensures)
+    compare-second _ _ _ _ (none v) (v .size-of .ensures) (a .count-with .ensures) (b .count-with2 .ensures) (c .refused .ensures)
     (t .if2 .taken)
 
-tell-compared-requires-3 : tie.Need-tell-compared-requires-3
-tell-compared-requires-3 c κs = search needs
+refused-requires-2 : tie.Need-refused-requires-2
+refused-requires-2 c κs = search needs
 
 returns-3 : tie.Need-returns-3
 returns-3 c =
@@ -60,7 +60,7 @@ returns-3 c =
     let b = t .before in
     let a = b .before in
     let v = a .before in
-    compare-first _ _ _ _ (none v) (v .size-of .ensures) (a .count-with .ensures) (b .count-with2 .ensures) (c .tell-compared3 .ensures)
+    compare-first _ _ _ _ (none v) (v .size-of .ensures) (a .count-with .ensures) (b .count-with2 .ensures) (c .refused2 .ensures)
     (t .if2 .left)
 
 pub compare-spec : {M : Type 1} → statement M
@@ -68,12 +68,12 @@ compare-spec =
     tie.close
     (tie.spec
     comparing-number-requires
-    tell-compared-requires
+    told-requires
     returns
     size-of-requires
     count-with-requires
     count-with-requires-2
-    tell-compared-requires-2
+    refused-requires
     returns-2
-    tell-compared-requires-3
+    refused-requires-2
     returns-3)

@@ -10,14 +10,14 @@ freeing-number-requires : tie.Need-freeing-number-requires
 freeing-number-requires c κs = search needs
 
 told-requires : tie.Need-told-requires
-told-requires c κs = free-own _ _ (c .before .freeing-number .ensures)
+told-requires c κs = free-own _ _ (c .before .before .freeing-number .ensures)
 
 same-length : tie.Need-same-length
 same-length c = search needs
 
 returns : tie.Need-returns
 returns c =
-    let t = c .before in
+    let t = c .before .before in
     free-refused _ _ (c .told .ensures) (t .before .freeing-number .ensures) (t .if1 .taken)
 
 size-of-requires : tie.Need-size-of-requires

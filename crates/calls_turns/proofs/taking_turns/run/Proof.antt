@@ -10,14 +10,14 @@ running-number-requires : tie.Need-running-number-requires
 running-number-requires c κs = search needs
 
 told-requires : tie.Need-told-requires
-told-requires c κs = run-own _ _ (c .before .running-number .ensures)
+told-requires c κs = run-own _ _ (c .before .before .running-number .ensures)
 
 same-length : tie.Need-same-length
 same-length c = search needs
 
 returns : tie.Need-returns
 returns c =
-    let t = c .before in
+    let t = c .before .before in
     run-refused _ _ (c .told .ensures) (t .before .running-number .ensures) (t .if1 .taken)
 
 size-of-requires : tie.Need-size-of-requires
