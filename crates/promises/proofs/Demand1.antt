@@ -3,6 +3,7 @@ use Rattle.promises.specs.Demand1.{Demand1}
 use Rattle.promises.proofs.Outcomes.{outcomes}
 use Rattle.promises.proofs.Tests.{tests}
 use Rattle.promises.proofs.RefusedCalls.{refused-calls}
+use Rattle.promises.proofs.RowTold.{row-told}
 use Rattle.promises.proofs.HeldStays.{held-stays}
 use Rattle.promises.proofs.SetHoldOnly.{set-hold-only}
 
@@ -11,6 +12,7 @@ demand1 = record {
   one-outcome = outcomes;
   tests-mean = tests;
   refused-keeps = refused-calls;
+  row-told = row-told;
   held-never-moved = held-stays;
   hold-set-only = set-hold-only;
 }

@@ -21,7 +21,8 @@ use Rattle.record_arrays.proofs.AsItStands.{over-its-leaves, side-perm}
 use Rattle.record_fields.specs.Refused.{refused}
 use Rattle.calls_show.specs.declared.answers.Entangled.{Entangled}
 use Rattle.calls_show.specs.declared.answers.Entangled.the-variants.{Ratio, NoRatio, Refused}
-use Rattle.calls_show.specs.Calls.{ratio, entangled, Entangles, entangledNumber, displacedIn, worstIn, ratioIn}
+use Rattle.calls_show.specs.Calls.{ratio, entangled, Entangles, entangledRefusal, displacedIn, worstIn, ratioIn}
+use Rattle.promises.proofs.RowTold.{entangled-told}
 use Rattle.promises.specs.Entanglement as Entanglement
 use Rattle.promises.specs.Entanglement.{Exact, EntangledKeeps}
 
@@ -31,15 +32,8 @@ exact x h = round-whole binary64 false x (omega (arith, h))
 
 module _ (s : List ℕ) where
   -- an answer with number 0 is of a record that is accepted
-  number-0 : entangledNumber (entangled s) ≡ 0 → refusal s ≡ 0
-  unfolding entangled
-  number-0 h = go (eqb (refusal s) 0) refl h
-    where
-      go : (b : Bool) → eqb (refusal s) 0 ≡ b →
-          entangledNumber (cond b (cond (eqb (sizeOf s) 1) NoRatio (Ratio (shownDisplacement s) (worst (sizeOf s))
-          (ratio (shownDisplacement s) (worst (sizeOf s))))) (Refused (refused (refusal s)))) ≡ 0 → refusal s ≡ 0
-      go true e h = eqb-true _ _ e
-      go false e h = h
+  number-0 : entangledRefusal (entangled s) .number ≡ 0 → refusal s ≡ 0
+  number-0 h = sym (ap (λ r. r .number) (entangled-told s)) ∙ h
 
   module _ (a : refusal s ≡ 0) where
     at-most : shownDisplacement s ≤ worst (sizeOf s)
@@ -92,5 +86,5 @@ module _ (s : List ℕ) where
 
 pub entanglement : Entanglement.Entanglement
 entanglement = record {
-  keeps = λ s answer o z. subst (EntangledKeeps s) (sym (o .answers)) (keeps s (number-0 s (ap entangledNumber (sym (o .answers)) ∙ z)));
+  keeps = λ s answer o z. subst (EntangledKeeps s) (sym (o .answers)) (keeps s (number-0 s (ap (λ a. entangledRefusal a .number) (sym (o .answers)) ∙ z)));
 }

@@ -11,6 +11,7 @@ use Rattle.work_tree_rule.specs.Rule.{among, first, badRow}
 use Rattle.record_fields.specs.Fields.{numbers, split, partsOf, packed}
 use Rattle.record_fields.specs.Refusals.{all, isMark, isHold, noSize, breaksRule, oneToOne, isLayout, contentsRefusal, headingRefusal}
 use Rattle.record_fields.specs.Refusals.{refusal}
+use Rattle.record_fields.specs.Told.{rowFor}
 use Rattle.record_arrays.specs.Sides.{isSide, holds}
 use Rattle.calls_turns.specs.Refusals.{noAllowance, freeRefusal, runRefusal}
 use Rattle.calls_show.specs.Calls.{entangled}
@@ -19,5 +20,5 @@ use Rattle.promises.specs.Examples.{Examples}
 pub examples : Examples
 unfolding order write leaves deep object count place range over across pairs choose freed go run after sum displacement
     used among first badRow numbers split partsOf packed all isMark isHold noSize breaksRule oneToOne isLayout contentsRefusal
-    headingRefusal refusal isSide holds noAllowance freeRefusal runRefusal entangled
+    headingRefusal refusal rowFor isSide holds noAllowance freeRefusal runRefusal entangled
 examples = refl

@@ -1,6 +1,7 @@
 pub mod Outcomes
 pub mod Tests
 pub mod RefusedCalls
+pub mod RowTold
 pub mod HeldStays
 pub mod SetHoldOnly
 pub mod RoundTrip

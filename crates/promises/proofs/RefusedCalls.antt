@@ -10,13 +10,13 @@ use Rattle.record_fields.specs.Refusals.{refusal, setHoldRefusal}
 use Rattle.record_fields.proofs.Refused.{lent-refused, zero-refused}
 use Rattle.record.specs.declared.reading.Reading.{Reading}
 use Rattle.record.specs.declared.reading.Reading.the-variants as reading
-use Rattle.record.specs.Calls.{readingNumber, holdIn, sizeIn}
+use Rattle.record.specs.Calls.{readingRefusal, holdIn, sizeIn}
 use Rattle.record_unpacking.specs.Refusals.{unpackRefusal}
 use Rattle.record_packing.specs.Refusals.{packRefusal}
 use Rattle.calls_show.specs.declared.answers.Entangled.{Entangled}
 use Rattle.calls_show.specs.declared.answers.Entangled.the-variants.{Ratio, NoRatio, Refused}
 use Rattle.calls_show.specs.Refusals.{orderRefusal}
-use Rattle.calls_show.specs.Calls.{entangled, entangledNumber, displacedIn, worstIn, ratioIn}
+use Rattle.calls_show.specs.Calls.{entangled, entangledRefusal, displacedIn, worstIn, ratioIn}
 use Rattle.calls_turns.specs.Refusals.{freeRefusal, runRefusal}
 use Rattle.calls_hands.specs.Refusals.{handsRefusal}
 use Rattle.calls_better.specs.Refusals.{betterRefusal}
@@ -25,7 +25,7 @@ use Rattle.promises.specs.Outcomes.{UnpackOutcome, UnpacksTo}
 use Rattle.promises.specs.RefusedCalls as RefusedCalls
 use Rattle.promises.specs.RefusedCalls.{NothingUnpacked}
 
-no-header : (a : Reading) → readingNumber a ≢ 0 → (holdIn a ≡ 0) × (sizeIn a ≡ 0)
+no-header : (a : Reading) → readingRefusal a .number ≢ 0 → (holdIn a ≡ 0) × (sizeIn a ≡ 0)
 no-header (reading.Accepted h) z = absurd (z refl)
 no-header (reading.Refused r) z = (refl, refl)
 
@@ -82,7 +82,7 @@ refused-calls = record {
       (ap (λ a. a .which) (o .answers) ∙ rw e refl, ap (λ a. a .length) (o .answers) ∙ rw e refl);
 }
   where
-    no-entanglement : (answer : Entangled) → entangledNumber answer ≢ 0 →
+    no-entanglement : (answer : Entangled) → entangledRefusal answer .number ≢ 0 →
         (displacedIn answer ≡ 0) × (worstIn answer ≡ 0) × (ratioIn answer ≡ none)
     no-entanglement (Ratio d w x) h = absurd (h refl)
     no-entanglement NoRatio h = absurd (h refl)

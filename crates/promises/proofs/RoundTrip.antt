@@ -6,6 +6,7 @@ use native.Mathlib.Omega.{arith}
 use lib.ListN.{length, take, drop}
 use lib.Seq.{take-at, take-append-seam}
 use Rattle.tanglegram.specs.Lists.{Each}
+use Rattle.record_fields.specs.Told.{rowFor}
 use Rattle.record_fields.specs.declared.refusal.Refusal.{Refusal}
 use Rattle.record_fields.specs.Fields.{holdOf, sizeOf, rightAt, linksAt, leftLayoutAt, rightLayoutAt, lengthOf}
 use Rattle.record_fields.specs.Fields.{Parts, given, parts, partsOf}
@@ -33,7 +34,7 @@ first-places k part found e =
 came-to : (s left right links left-layout right-layout : List ℕ) (o : UnpackOutcome) →
     UnpacksTo s left right links left-layout right-layout o → unpackRefusal s left right links left-layout right-layout ≡ 0 →
     CameTo (parts s) o
-unfolding partsOf
+unfolding partsOf rowFor
 came-to s left right links left-layout right-layout o u z =
     let k = unpackRefusal s left right links left-layout right-layout in
     let P = parts s in

@@ -6,12 +6,13 @@ use mathlib.Core.List.{List, [], _∷_}
 use native.Mathlib.Omega.{arith}
 use borrow.Author.Tests.{ne-eqb}
 use Rattle.tanglegram.specs.Lists.{place, range}
-use Rattle.tanglegram.specs.Tree.{leaves, deep, object, used}
+use Rattle.tanglegram.specs.Tree.{leaves, deep, object, used, Row}
 use Rattle.tanglegram.specs.Order.{order, write}
 use Rattle.tanglegram.specs.Crossings.{over, across, pairs, count}
 use Rattle.tanglegram.specs.Freeing.{choose, freed}
 use Rattle.tanglegram.specs.Run.{left, after}
 use Rattle.tanglegram.specs.Examples.{gainsInTurn2}
+use Rattle.work_trees.specs.Rows.{upper, lower}
 use Rattle.work_tree_rule.specs.Rule.{among, first, badRow}
 use Rattle.record_fields.specs.Fields.{numbers, split, partsOf, packed}
 use Rattle.record_fields.specs.Refusals.{all, isMark, isHold, noSize, breaksRule, oneToOne, isLayout, contentsRefusal, headingRefusal}
@@ -23,7 +24,7 @@ use Rattle.calls_better.specs.Calls.{betterWhich}
 use Rattle.promises.specs.Demand2.{FreeKeeps}
 use Rattle.promises.specs.Demand3.{countAfter}
 use Rattle.promises.specs.Examples.{recordOf}
-use Rattle.promises.specs.Tried.{tied, byte2, Tried}
+use Rattle.promises.specs.Tried.{tied, byte2, bothBad, Tried}
 
 -- the record is accepted, and with the byte 2 it is refused
 refusals : (refusal tied ≡ 0) × (refusal byte2 ≡ 10)
@@ -44,9 +45,26 @@ counts : (countAfter (recordOf gainsInTurn2) 1 ≡ 1) × (countAfter (recordOf g
 unfolding order write leaves deep object count place range over across pairs choose freed after used numbers split partsOf packed
 counts = (refl, refl)
 
+-- the first row of the right tree keeps the rule
+first-right : Row 3 (upper (bothBad .right-rows)) (lower (bothBad .right-rows)) 1
+unfolding used
+first-right = record {
+  upper-least = omega arith;
+  upper-below = omega arith;
+  lower-least = omega arith;
+  lower-below = omega arith;
+  apart = λ e. omega (arith, e);
+  upper-new = tt;
+  lower-new = tt;
+}
+
 pub tried : Tried
 unfolding betterWhich
 tried = record {
+  last-bad-row = λ k. let first = k .left refl .earlier 1 (omega arith) (omega arith) .lower-below in omega (arith, first);
+  no-bad-row = λ P k. let one = k .left refl .is-row .0 in omega (arith, one);
+  good-row = λ k. k .right refl .broken first-right;
+  row-left-over = λ P i h k. let none = k .no-row (λ e. omega (arith, e)) (λ e. omega (arith, e)) in omega (arith, none);
   no-record-afterwards = λ k. let again = k .same-trees .accepted-again (refusals .0) in omega (arith, again, refusals .1);
   same-count = same;
   byte-neither-turned-nor-kept = λ k. ⊎-elim (λ e. omega (arith, e)) (λ e. omega (arith, e)) (root k);

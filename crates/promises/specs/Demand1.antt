@@ -5,6 +5,7 @@
 use Rattle.promises.specs.Outcomes.{Outcomes}
 use Rattle.promises.specs.Tests.{Tests}
 use Rattle.promises.specs.RefusedCalls.{RefusedCalls}
+use Rattle.promises.specs.RowTold.{RowTold}
 use Rattle.promises.specs.HeldStays.{HeldStays}
 use Rattle.promises.specs.SetHoldOnly.{SetHoldPromise}
 
@@ -15,6 +16,8 @@ pub record Demand1 : Type 0 where
   pub tests-mean : Tests
   -- "A refused call changes no lent byte", and answers zeros.
   pub refused-keeps : RefusedCalls
+  -- A refusal of 7 or 8 says which row is bad.
+  pub row-told : RowTold
   -- "A held side is never moved": not by the calls that move sides, nor by setting the hold.
   pub held-never-moved : HeldStays
   pub hold-set-only : SetHoldPromise

@@ -12,7 +12,7 @@ use Rattle.tanglegram.specs.Entanglement.{worst}
 use Rattle.record_fields.specs.Fields.{sizeOf}
 use Rattle.record_arrays.specs.Shown.{shownDisplacement}
 use Rattle.calls_show.specs.declared.answers.Entangled.{Entangled}
-use Rattle.calls_show.specs.Calls.{Entangles, entangledNumber, displacedIn, worstIn, ratioIn}
+use Rattle.calls_show.specs.Calls.{Entangles, entangledRefusal, displacedIn, worstIn, ratioIn}
 
 -- A whole number is a 64-bit float without loss: the float has its value.
 abbrev pub Exact : ℕ → Type 0
@@ -31,4 +31,4 @@ pub record EntangledKeeps (s : List ℕ) (answer : Entangled) : Type 0 where
       ratioIn answer ≡ some (div binary64 (ofInt binary64 (pos (displacedIn answer))) (ofInt binary64 (pos (worstIn answer))))
 
 pub record Entanglement : Type 0 where
-  pub keeps : (s : List ℕ) (answer : Entangled) → Entangles s answer → entangledNumber answer ≡ 0 → EntangledKeeps s answer
+  pub keeps : (s : List ℕ) (answer : Entangled) → Entangles s answer → entangledRefusal answer .number ≡ 0 → EntangledKeeps s answer

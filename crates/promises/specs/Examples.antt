@@ -12,7 +12,9 @@ use Rattle.tanglegram.specs.Table.{orderOf, crossings}
 use Rattle.tanglegram.specs.Examples.{Case, Shown, Line, bytesOf, caseOwn, examples}
 use Rattle.record_fields.specs.Fields.{given, packed}
 use Rattle.record_fields.specs.Refusals.{refusal}
-use Rattle.record_fields.specs.Refused.{accepted, orZero}
+use Rattle.record_fields.specs.declared.refusal.Refusal.{Refusal}
+use Rattle.record_fields.specs.Refused.{refusedRow, accepted, orZero}
+use Rattle.record_fields.specs.Told.{toldOf}
 use Rattle.record_fields.specs.Meaning.{tableOf}
 use Rattle.record_arrays.specs.Shown.{shownOrder, shownCount}
 use Rattle.calls_show.specs.Calls.{entangled, displacedIn, worstIn, ratioIn}
@@ -25,12 +27,12 @@ abbrev pub recordOf : Case → List ℕ
 recordOf g =
     packed (given 78 (g .size) (g .left-rows) (g .right-rows) (g .links) (g .layouts .left-bytes) (g .layouts .right-bytes))
 
--- What the calls' definitions say of a case's record: the refusals of reading it, of freeing its left and of running it; then what a line
--- shows, which is nothing but the number where it is refused.
+-- What the calls' definitions say of a case's record: the refusals, with their rows, of reading it, of freeing its left and of running it;
+-- then what a line shows, which is nothing but the number and the row where it is refused.
 pub record Called : Type 0 where
-  pub read-refused : ℕ
-  pub free-refused : ℕ
-  pub run-refused : ℕ
+  pub read-refused : Refusal
+  pub free-refused : Refusal
+  pub run-refused : Refusal
   pub shown : Shown
 
 abbrev isRatio : Option Float → Bool
@@ -44,11 +46,12 @@ called g =
     let e = ranTo s (g .allowance) in
     let listed : List ℕ → List ℕ = λ xs. cond (accepted k) xs [] in
     record {
-      read-refused = k;
-      free-refused = freeRefusal s 1;
-      run-refused = runRefusal s (g .allowance);
+      read-refused = toldOf s k;
+      free-refused = toldOf s (freeRefusal s 1);
+      run-refused = toldOf s (runRefusal s (g .allowance));
       shown = record {
         refused = k;
+        bad-row = toldOf s k .row;
         left-order = listed (shownOrder s left);
         right-order = listed (shownOrder s right);
         crossed = orZero k (shownCount s);
@@ -68,12 +71,9 @@ called g =
     }
 
 abbrev told : Line → Called
-told l = record {
-  read-refused = l .shows .refused;
-  free-refused = l .shows .refused;
-  run-refused = l .shows .refused;
-  shown = l .shows;
-}
+told l =
+    let r = refusedRow (l .shows .refused) (l .shows .bad-row) in
+    record { read-refused = r; free-refused = r; run-refused = r; shown = l .shows }
 
 abbrev pub Examples : Type 0
 Examples = map (λ l. called (l .from)) examples ≡ map told examples

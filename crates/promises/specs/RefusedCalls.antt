@@ -1,5 +1,5 @@
 -- The customer: "A refusal returns its number, with zero for every other number (better of two apart), and all lent memory stays as
--- found." For every call that has another number to answer, or writes to what is lent.
+-- found." For every call that has another number to answer, or writes to what is lent; of the row that comes with 7 and 8, see `RowTold`.
 use Prim.Native.Nat.{ℕ}
 use mathlib.Core.Path.{_≡_}
 use mathlib.Core.Logic.{_≢_}
@@ -8,11 +8,11 @@ use mathlib.Core.Option.{none}
 use Rattle.record_fields.specs.declared.refusal.Refusal.{Refusal}
 use Rattle.record_fields.specs.Fields.{Parts}
 use Rattle.record.specs.declared.reading.Reading.{Reading}
-use Rattle.record.specs.Calls.{Reads, readingNumber, holdIn, sizeIn, SetsHold}
+use Rattle.record.specs.Calls.{Reads, readingRefusal, holdIn, sizeIn, SetsHold}
 use Rattle.record_packing.specs.Calls.{Packs}
 use Rattle.calls_show.specs.declared.answers.Counted.{Counted}
 use Rattle.calls_show.specs.declared.answers.Entangled.{Entangled}
-use Rattle.calls_show.specs.Calls.{Orders, Counts, Entangles, entangledNumber, displacedIn, worstIn, ratioIn}
+use Rattle.calls_show.specs.Calls.{Orders, Counts, Entangles, entangledRefusal, displacedIn, worstIn, ratioIn}
 use Rattle.calls_turns.specs.declared.answers.Freed.{Freed}
 use Rattle.calls_turns.specs.declared.answers.Ran.{Ran}
 use Rattle.calls_turns.specs.Calls.{Frees, Runs}
@@ -34,7 +34,8 @@ pub record NothingUnpacked (left right links left-layout right-layout : List ℕ
   pub right-layout-as-found : o .right-layout ≡ right-layout
 
 pub record RefusedCalls : Type 0 where
-  pub read : (s : List ℕ) (answer : Reading) → Reads s answer → readingNumber answer ≢ 0 → (holdIn answer ≡ 0) × (sizeIn answer ≡ 0)
+  pub read : (s : List ℕ) (answer : Reading) → Reads s answer → readingRefusal answer .number ≢ 0 →
+      (holdIn answer ≡ 0) × (sizeIn answer ≡ 0)
   pub set-hold : (s : List ℕ) (letter : ℕ) (answer : Refusal) (s′ : List ℕ) → SetsHold s letter answer s′ → answer .number ≢ 0 → s′ ≡ s
   pub unpack : (s left right links left-layout right-layout : List ℕ) (o : UnpackOutcome) →
       UnpacksTo s left right links left-layout right-layout o → o .answer .refusal .number ≢ 0 →
@@ -43,7 +44,7 @@ pub record RefusedCalls : Type 0 where
   pub order : (s : List ℕ) (side : ℕ) (out : List ℕ) (answer : Refusal) (out′ : List ℕ) → Orders s side out answer out′ →
       answer .number ≢ 0 → out′ ≡ out
   pub count : (s : List ℕ) (answer : Counted) → Counts s answer → answer .refusal .number ≢ 0 → answer .count ≡ 0
-  pub entanglement : (s : List ℕ) (answer : Entangled) → Entangles s answer → entangledNumber answer ≢ 0 →
+  pub entanglement : (s : List ℕ) (answer : Entangled) → Entangles s answer → entangledRefusal answer .number ≢ 0 →
       (displacedIn answer ≡ 0) × (worstIn answer ≡ 0) × (ratioIn answer ≡ none)
   pub free : (s : List ℕ) (side : ℕ) (answer : Freed) (s′ : List ℕ) → Frees s side answer s′ → answer .refusal .number ≢ 0 →
       (s′ ≡ s) × (answer .before ≡ 0) × (answer .after ≡ 0)

@@ -1,11 +1,13 @@
--- Wrong outcomes that the promises exclude: each was tried, and met an earlier wording.
-use Prim.Native.Nat.{ℕ}
+-- Wrong outcomes that the promises exclude: each was tried. Those of freeing, running and better of two met an earlier wording.
+use Prim.Native.Nat.{ℕ, _≤_}
 use mathlib.Core.Path.{_≡_}
 use mathlib.Core.Logic.{_≢_}
 use mathlib.Core.List.{List, [], _∷_}
 use Rattle.tanglegram.specs.Run.{left}
 use Rattle.tanglegram.specs.Examples.{bytesOf, rootsTie, gainsInTurn2, oneLeaf}
+use Rattle.record_fields.specs.Fields.{Parts, given}
 use Rattle.record_fields.specs.Meaning.{relaid}
+use Rattle.record_fields.specs.Told.{SaysRow}
 use Rattle.record_arrays.specs.Shown.{shownCount}
 use Rattle.calls_turns.specs.declared.answers.Ran.{Ran}
 use Rattle.calls_better.specs.Refusals.{betterRefusal}
@@ -23,7 +25,18 @@ tied = recordOf (rootsTie (bytesOf (0 ∷ 0 ∷ []) (0 ∷ 0 ∷ [])))
 abbrev pub byte2 : List ℕ
 byte2 = relaid tied (bytesOf (0 ∷ 2 ∷ []) (0 ∷ 0 ∷ []))
 
+-- Rows over three leaves of which both break the tree rule: the first by its range, the second by using its entry twice.
+abbrev pub bothBad : Parts
+bothBad = given 78 3 (1 ∷ 5 ∷ 2 ∷ 2 ∷ []) (1 ∷ 2 ∷ 4 ∷ 3 ∷ []) (1 ∷ 2 ∷ 3 ∷ []) (0 ∷ 0 ∷ []) (0 ∷ 0 ∷ [])
+
 pub record Tried : Type 0 where
+  -- A refusal 7 that says the last bad row in place of the lowest; one that says no row;
+  pub last-bad-row : SaysRow bothBad 7 2 → ⊥
+  pub no-bad-row : (P : Parts) → SaysRow P 7 0 → ⊥
+  -- that says the left tree's row with 8, where the right tree has none;
+  pub good-row : SaysRow bothBad 8 1 → ⊥
+  -- and a row that is left over beside 9.
+  pub row-left-over : (P : Parts) (i : ℕ) → 1 ≤ i → SaysRow P 9 i → ⊥
   -- A call that makes a record one that is refused.
   pub no-record-afterwards : Keeps tied byte2 → ⊥
   -- Freeing after which a row's byte is neither the other one nor the same, at the same count.

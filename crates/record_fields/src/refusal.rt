@@ -9,16 +9,6 @@ pub struct Refusal {
     pub row: u16,
 }
 
-// The refusal with a number and no row.
-pub fn refused(number: u16) -> Refusal
-    ensures { λ r. ⌜ r ≡ refused number ⌝ }
-{
-    Refusal {
-        number: number,
-        row: 0,
-    }
-}
-
 // The refusal with a number and a row.
 pub fn refused_row(number: u16, row: u16) -> Refusal
     ensures { λ r. ⌜ r ≡ refusedRow number row ⌝ }
@@ -27,6 +17,13 @@ pub fn refused_row(number: u16, row: u16) -> Refusal
         number: number,
         row: row,
     }
+}
+
+// The refusal with a number and no row.
+pub fn refused(number: u16) -> Refusal
+    ensures { λ r. ⌜ r ≡ refused number ⌝ }
+{
+    refused_row(number, 0)
 }
 
 // fewer than 8 bytes

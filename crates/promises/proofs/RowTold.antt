@@ -1,0 +1,58 @@
+-- What each call tells is the refusal of its number, and that number's row is its record's own.
+use Prim.Native.Nat.{ℕ, zero, suc}
+use mathlib.Core.Path.{_≡_, refl, sym, ap, _∙_}
+use mathlib.Core.Bool.{Bool, true, false}
+use mathlib.Core.List.{List}
+use borrow.Author.Tests.{eqb-true}
+use lib.Dec.{eqb}
+use Rattle.record_fields.specs.Fields.{sizeOf, parts}
+use Rattle.record_fields.specs.Refusals.{refusal}
+use Rattle.record_fields.specs.Refused.{accepted}
+use Rattle.record_fields.specs.Told.{toldOf}
+use Rattle.record_fields.proofs.Told.{told-none, tells-row, tells-row-in, refusal-own, set-hold-own}
+use Rattle.record.specs.Calls.{readingOf, readingRefusal}
+use Rattle.record_unpacking.proofs.Unpacked.{unpack-own}
+use Rattle.record_packing.proofs.Packed.{pack-own}
+use Rattle.calls_show.specs.Calls.{entangled, entangledRefusal}
+use Rattle.calls_show.proofs.Outcomes.{order-own}
+use Rattle.calls_turns.proofs.Turns.{free-own, run-own}
+use Rattle.calls_hands.proofs.HandLists.{hands-own}
+use Rattle.calls_better.proofs.Compared.{compare-own}
+use Rattle.promises.specs.RowTold as RowTold
+
+-- a reading's and an entanglement's refusal, case by case
+module _ (s : List ℕ) where
+  read-told : readingRefusal (readingOf s) ≡ toldOf s (refusal s)
+  unfolding readingOf
+  read-told = go (accepted (refusal s)) refl
+    where
+      go : (b : Bool) → accepted (refusal s) ≡ b → readingRefusal (readingOf s) ≡ toldOf s (refusal s)
+      go true e = rw e (told-none (parts s) (eqb-true (refusal s) 0 e))
+      go false e = rw e refl
+
+  pub entangled-told : entangledRefusal (entangled s) ≡ toldOf s (refusal s)
+  unfolding entangled
+  entangled-told = go (accepted (refusal s)) refl (eqb (sizeOf s) 1) refl
+    where
+      go : (b : Bool) → accepted (refusal s) ≡ b → (c : Bool) → eqb (sizeOf s) 1 ≡ c → entangledRefusal (entangled s) ≡ toldOf s (refusal s)
+      go true e true f = rw (e, f) (told-none (parts s) (eqb-true (refusal s) 0 e))
+      go true e false f = rw (e, f) (told-none (parts s) (eqb-true (refusal s) 0 e))
+      go false e c f = rw e refl
+
+pub row-told : RowTold.RowTold
+row-told = record {
+  check = λ s answer p. tells-row s (refusal-own s refl) (p .answers);
+  read = λ s answer p. tells-row s (refusal-own s refl) (ap readingRefusal (p .answers) ∙ read-told s);
+  set-hold = λ s letter answer s′ p. tells-row s (set-hold-own s letter refl) (p .answers);
+  unpack = λ s left right links left-layout right-layout o p.
+      tells-row s (unpack-own s left right links left-layout right-layout refl) (ap (λ a. a .refusal) (p .answers));
+  pack = λ P out answer out′ p. tells-row-in P (pack-own P out) (p .answers);
+  order = λ s side out answer out′ p. tells-row s (order-own s side out refl) (p .answers);
+  count = λ s answer p. tells-row s (refusal-own s refl) (ap (λ a. a .refusal) (p .answers));
+  entanglement = λ s answer p. tells-row s (refusal-own s refl) (ap entangledRefusal (p .answers) ∙ entangled-told s);
+  free = λ s side answer s′ p. tells-row s (free-own s side refl) (ap (λ a. a .refusal) (p .answers));
+  run = λ s allowance answer s′ p. tells-row s (run-own s allowance refl) (ap (λ a. a .refusal) (p .answers));
+  hands = λ s hands answer s′ p. tells-row s (hands-own s hands refl) (p .answers);
+  compare = λ s side first second answer p. tells-row s (compare-own s side first second refl) (ap (λ a. a .refusal) (p .answers));
+  better-check = λ s side first second answer p. tells-row s (compare-own s side first second refl) (p .answers);
+}
