@@ -142,7 +142,8 @@ module _ (left right links left-layout right-layout out : List ℕ) where
     size-wide {hold} {n} w = widened (λ x. Packs (partsWith hold x) out a out′) w (λ h. go h (isHold hold) refl)
       where
         go : 65536 ≤ n → (b : Bool) → isHold hold ≡ b → Packs (partsWith hold 0) out a out′ → Packs (partsWith hold n) out a out′
-        go h true b = packs-alike (λ e. omega arith) (record { alone = refl }) (pack-5 hold 0 b zero-no-size) (pack-5 hold n b (no-size n h))
+        go h true b =
+            packs-alike (λ e. omega arith) (record { alone = refl }) (pack-5 hold 0 b zero-no-size) (pack-5 hold n b (no-size n h))
         go h false b = packs-alike (λ e. omega arith) (record { alone = refl }) (pack-4 hold 0 b) (pack-4 hold n b)
 
     pub pack-wide : {hold letter n size : ℕ} → Narrowed 256 hold letter → Narrowed 65536 n size →

@@ -93,7 +93,14 @@ FreesForC s side answer s′ = Gives (λ a. Frees s side a s′) freeForC answer
 -- ---- run
 
 abbrev pub runForC : Ran → TangleRun
-runForC a = record { refusal = a .refusal .number; row = a .refusal .row; first = a .first; last = a .last; turns = a .turns; settled = a .settled }
+runForC a = record {
+  refusal = a .refusal .number;
+  row = a .refusal .row;
+  first = a .first;
+  last = a .last;
+  turns = a .turns;
+  settled = a .settled;
+}
 
 abbrev pub RunsForC : List ℕ → ℕ → TangleRun → List ℕ → Type 0
 RunsForC s allowance answer s′ = Gives (λ a. Runs s allowance a s′) runForC answer

@@ -1,5 +1,5 @@
-// What the calls for C answer: structs of 32-bit numbers and one ratio, the refusal's number and its row first, and zero
-// for every other number where the refusal is not 0. The row is 0 unless the refusal is 7 or 8.
+// What the calls for C answer: structs of 32-bit numbers and one ratio, the refusal's number and its row first, and
+// zero for every other number where the refusal is not 0. The row is 0 unless the refusal is 7 or 8.
 
 // Of check, order, hands, better_check, hold and pack: the refusal and its row.
 #[repr(C)]
