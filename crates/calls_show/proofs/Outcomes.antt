@@ -2,11 +2,11 @@
 use Prim.Native.Nat.{ℕ, _≤_, _<_}
 use mathlib.Core.Path.{_≡_, refl, sym, ap, _∙_}
 use mathlib.Core.Logic.{_≢_}
-use mathlib.Core.Bool.{true, false, not}
+use mathlib.Core.Bool.{Bool, true, false, not}
 use mathlib.Core.List.{List, _++_}
 use native.Mathlib.Omega.{arith}
-use borrow.Author.Tests.{eq-eqb, ne-eqb, lt-ltb, le-ltb, ltb-false}
-use lib.Dec.{ltb}
+use borrow.Author.Tests.{eq-eqb, ne-eqb, eqb-true, lt-ltb, le-ltb, ltb-false}
+use lib.Dec.{eqb, ltb}
 use lib.ListN.{length, take, drop}
 use lib.Seq.{sets}
 use Rattle.tanglegram.specs.Entanglement.{displacement, worst}
@@ -14,7 +14,7 @@ use Rattle.tanglegram.specs.Run.{left, right}
 use Rattle.tanglegram.proofs.Lists.{all-length}
 use Rattle.record_fields.specs.Fields.{sizeOf, parts}
 use Rattle.record_fields.specs.Refusals.{refusal}
-use Rattle.record_fields.specs.Refused.{refused}
+use Rattle.record_fields.specs.Refused.{refused, accepted}
 use Rattle.record_fields.specs.Told.{toldOf, OwnRow}
 use Rattle.record_fields.proofs.Acceptance.{else-first, none-both}
 use Rattle.record_fields.proofs.Heading.{none-first, not-no}
@@ -26,7 +26,7 @@ use Rattle.record_arrays.specs.Sides.{isSide, sideOf}
 use Rattle.calls_show.specs.Refusals.{orderRefusal}
 use Rattle.record_arrays.specs.Shown.{shownOrder, shownCount}
 use Rattle.record_fields.specs.declared.refusal.Refusal.{Refusal}
-use Rattle.calls_show.specs.Calls.{Orders, Counts, ratio, entangled, Entangles}
+use Rattle.calls_show.specs.Calls.{Orders, Counts, ratio, entangled, Entangles, entangledRefusal}
 use Rattle.record_arrays.proofs.AsItStands.{side-perm, over-n}
 use Rattle.record_arrays.proofs.Apart.{order-taken}
 
@@ -55,6 +55,16 @@ module _ (s : List ℕ) where
         Entangles s (Ratio d w (ratio d w))
     unfolding entangled
     entangled-ratio h p q = record { answers = rw (a, ne-eqb (sizeOf s) 1 (λ z. h (e ∙ z)), p, q, e) refl }
+
+  -- its refusal, case by case
+  pub entangled-told : entangledRefusal (entangled s) ≡ toldOf s (refusal s)
+  unfolding entangled
+  entangled-told = go (accepted (refusal s)) refl (eqb (sizeOf s) 1) refl
+    where
+      go : (b : Bool) → accepted (refusal s) ≡ b → (c : Bool) → eqb (sizeOf s) 1 ≡ c → entangledRefusal (entangled s) ≡ toldOf s (refusal s)
+      go true e true f = rw (e, f) (told-none (parts s) (eqb-true (refusal s) 0 e))
+      go true e false f = rw (e, f) (told-none (parts s) (eqb-true (refusal s) 0 e))
+      go false e c f = rw e refl
 
 -- ---- a side's order
 

@@ -22,7 +22,7 @@ use Rattle.record_fields.specs.Refused.{refused}
 use Rattle.calls_show.specs.declared.answers.Entangled.{Entangled}
 use Rattle.calls_show.specs.declared.answers.Entangled.the-variants.{Ratio, NoRatio, Refused}
 use Rattle.calls_show.specs.Calls.{ratio, entangled, Entangles, entangledRefusal, displacedIn, worstIn, ratioIn}
-use Rattle.promises.proofs.RowTold.{entangled-told}
+use Rattle.calls_show.proofs.Outcomes.{entangled-told}
 use Rattle.promises.specs.Entanglement as Entanglement
 use Rattle.promises.specs.Entanglement.{Exact, EntangledKeeps}
 

@@ -4,8 +4,7 @@ use mathlib.Core.Path.{_≡_, refl, sym, ap, _∙_}
 use mathlib.Core.Bool.{Bool, true, false}
 use mathlib.Core.List.{List}
 use borrow.Author.Tests.{eqb-true}
-use lib.Dec.{eqb}
-use Rattle.record_fields.specs.Fields.{sizeOf, parts}
+use Rattle.record_fields.specs.Fields.{parts}
 use Rattle.record_fields.specs.Refusals.{refusal}
 use Rattle.record_fields.specs.Refused.{accepted}
 use Rattle.record_fields.specs.Told.{toldOf}
@@ -13,14 +12,14 @@ use Rattle.record_fields.proofs.Told.{told-none, tells-row, tells-row-in, refus
 use Rattle.record.specs.Calls.{readingOf, readingRefusal}
 use Rattle.record_unpacking.proofs.Unpacked.{unpack-own}
 use Rattle.record_packing.proofs.Packed.{pack-own}
-use Rattle.calls_show.specs.Calls.{entangled, entangledRefusal}
-use Rattle.calls_show.proofs.Outcomes.{order-own}
+use Rattle.calls_show.specs.Calls.{entangledRefusal}
+use Rattle.calls_show.proofs.Outcomes.{order-own, entangled-told}
 use Rattle.calls_turns.proofs.Turns.{free-own, run-own}
 use Rattle.calls_hands.proofs.HandLists.{hands-own}
 use Rattle.calls_better.proofs.Compared.{compare-own}
 use Rattle.promises.specs.RowTold as RowTold
 
--- a reading's and an entanglement's refusal, case by case
+-- a reading's refusal, case by case
 module _ (s : List ℕ) where
   read-told : readingRefusal (readingOf s) ≡ toldOf s (refusal s)
   unfolding readingOf
@@ -29,15 +28,6 @@ module _ (s : List ℕ) where
       go : (b : Bool) → accepted (refusal s) ≡ b → readingRefusal (readingOf s) ≡ toldOf s (refusal s)
       go true e = rw e (told-none (parts s) (eqb-true (refusal s) 0 e))
       go false e = rw e refl
-
-  pub entangled-told : entangledRefusal (entangled s) ≡ toldOf s (refusal s)
-  unfolding entangled
-  entangled-told = go (accepted (refusal s)) refl (eqb (sizeOf s) 1) refl
-    where
-      go : (b : Bool) → accepted (refusal s) ≡ b → (c : Bool) → eqb (sizeOf s) 1 ≡ c → entangledRefusal (entangled s) ≡ toldOf s (refusal s)
-      go true e true f = rw (e, f) (told-none (parts s) (eqb-true (refusal s) 0 e))
-      go true e false f = rw (e, f) (told-none (parts s) (eqb-true (refusal s) 0 e))
-      go false e c f = rw e refl
 
 pub row-told : RowTold.RowTold
 row-told = record {

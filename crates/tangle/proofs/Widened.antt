@@ -11,8 +11,9 @@ use Rattle.record_fields.specs.declared.refusal.Refusal.{Refusal}
 use Rattle.record_fields.specs.Fields.{Parts, given, packed}
 use Rattle.record_fields.specs.Refusals.{isHold, noSize, setHoldRefusal}
 use Rattle.record.specs.Calls.{SetsHold}
-use Rattle.record_fields.specs.Refused.{refused}
+use Rattle.record_fields.specs.Told.{toldIn, toldOf}
 use Rattle.record_fields.proofs.Refused.{lent-refused}
+use Rattle.record_fields.proofs.Told.{Alone, told-alone}
 use Rattle.record_packing.specs.Refusals.{shapeRefusal, packRefusal}
 use Rattle.record_packing.specs.Calls.{Packs}
 use Rattle.record_arrays.specs.Sides.{isSide}
@@ -72,7 +73,7 @@ module _ {side k : ℕ} (w : Narrowed 65536 side k) where
   better-check-wide {s} {first} {second} {a} = by-side (λ x. BetterChecks s x first second a) (λ no p.
       let z = comparing-13 s 0 first second zero-no-side in
       let e = comparing-13 s side first second no in
-      record { answers = p .answers ∙ ap refused (sym z ∙ e) })
+      record { answers = p .answers ∙ ap (toldOf s) (sym z ∙ e) })
 
 -- ---- hold letters
 
@@ -110,11 +111,11 @@ zero-no-size : noSize 0 ≡ true
 unfolding noSize
 zero-no-size = refl
 
--- parts that are refused alike
-packs-alike : {P Q : Parts} {out out′ : List ℕ} {a : Refusal} {c : ℕ} → c ≢ 0 → c ≡ packRefusal P out → c ≡ packRefusal Q out →
+-- parts that are refused alike, with a number that has no row
+packs-alike : {P Q : Parts} {out out′ : List ℕ} {a : Refusal} {c : ℕ} → c ≢ 0 → Alone c → c ≡ packRefusal P out → c ≡ packRefusal Q out →
     Packs P out a out′ → Packs Q out a out′
-packs-alike {P} {Q} {out} {c = c} some z e p = record {
-  answers = p .answers ∙ ap refused (sym z ∙ e);
+packs-alike {P} {Q} {out} {c = c} some alone z e p = record {
+  answers = p .answers ∙ ap (toldIn P) (sym z) ∙ sym (told-alone P alone) ∙ told-alone Q alone ∙ ap (toldIn Q) e;
   afterwards =
       (rw (← z) at (p .afterwards)) ∙ sym (lent-refused c (packed P) out some) ∙ rw (← e) (lent-refused c (packed Q) out some);
 }
@@ -135,14 +136,15 @@ module _ (left right links left-layout right-layout out : List ℕ) where
     letter-wide : {hold n k : ℕ} → Narrowed 256 hold k → Packs (partsWith k n) out a out′ → Packs (partsWith hold n) out a out′
     letter-wide {hold} {n} w =
         widened (λ x. Packs (partsWith x n) out a out′) w
-        (λ h. packs-alike (λ e. omega arith) (pack-4 0 n zero-no-letter) (pack-4 hold n (no-letter hold h)))
+        (λ h. packs-alike (λ e. omega arith) (record { alone = refl }) (pack-4 0 n zero-no-letter) (pack-4 hold n (no-letter hold h)))
 
     size-wide : {hold n k : ℕ} → Narrowed 65536 n k → Packs (partsWith hold k) out a out′ → Packs (partsWith hold n) out a out′
     size-wide {hold} {n} w = widened (λ x. Packs (partsWith hold x) out a out′) w (λ h. go h (isHold hold) refl)
       where
         go : 65536 ≤ n → (b : Bool) → isHold hold ≡ b → Packs (partsWith hold 0) out a out′ → Packs (partsWith hold n) out a out′
-        go h true b = packs-alike (λ e. omega arith) (pack-5 hold 0 b zero-no-size) (pack-5 hold n b (no-size n h))
-        go h false b = packs-alike (λ e. omega arith) (pack-4 hold 0 b) (pack-4 hold n b)
+        go h true b =
+            packs-alike (λ e. omega arith) (record { alone = refl }) (pack-5 hold 0 b zero-no-size) (pack-5 hold n b (no-size n h))
+        go h false b = packs-alike (λ e. omega arith) (record { alone = refl }) (pack-4 hold 0 b) (pack-4 hold n b)
 
     pub pack-wide : {hold letter n size : ℕ} → Narrowed 256 hold letter → Narrowed 65536 n size →
         Packs (partsWith letter size) out a out′ → Packs (partsWith hold n) out a out′

@@ -37,10 +37,10 @@ pub record Gives {A B : Type 0} (call : A → Type 0) (form : A → B) (answer :
   pub called : call given
   pub answers : answer ≡ form given
 
--- ---- check, order, hold, hands, better_check, pack: the refusal alone
+-- ---- check, order, hold, hands, better_check, pack: the refusal and its row alone
 
 abbrev pub refusalForC : Refusal → TangleRefusal
-refusalForC a = record { refusal = a .number }
+refusalForC a = record { refusal = a .number; row = a .row }
 
 abbrev pub ChecksForC : List ℕ → TangleRefusal → Type 0
 ChecksForC s answer = Gives (Checks s) refusalForC answer
@@ -63,21 +63,21 @@ PacksForC P out answer out′ = Gives (λ a. Packs P out a out′) refusalForC a
 -- ---- count and pairs
 
 abbrev pub countForC : Counted → TangleCount
-countForC a = record { refusal = a .refusal .number; count = a .count }
+countForC a = record { refusal = a .refusal .number; row = a .refusal .row; count = a .count }
 
 abbrev pub CountsForC : List ℕ → TangleCount → Type 0
 CountsForC s answer = Gives (Counts s) countForC answer
 
 -- ---- entanglement
 
--- No ratio: the number, and zero for every other; as a ratio, +0.
-abbrev pub noRatio : ℕ → TangleEntanglement
-noRatio k = record { refusal = k; displacement = 0; worst = 0; «has_ratio» = 0; ratio = fin false 0 (pos 0) }
+-- No ratio: the refusal's number and its row, and zero for every other number; as a ratio, +0.
+abbrev pub noRatio : ℕ → ℕ → TangleEntanglement
+noRatio k row = record { refusal = k; row = row; displacement = 0; worst = 0; «has_ratio» = 0; ratio = fin false 0 (pos 0) }
 
 abbrev pub entanglementForC : Entangled → TangleEntanglement
-entanglementForC (Ratio d w x) = record { refusal = 0; displacement = d; worst = w; «has_ratio» = 1; ratio = x }
-entanglementForC NoRatio = noRatio 0
-entanglementForC (Refused r) = noRatio (r .number)
+entanglementForC (Ratio d w x) = record { refusal = 0; row = 0; displacement = d; worst = w; «has_ratio» = 1; ratio = x }
+entanglementForC NoRatio = noRatio 0 0
+entanglementForC (Refused r) = noRatio (r .number) (r .row)
 
 abbrev pub EntanglesForC : List ℕ → TangleEntanglement → Type 0
 EntanglesForC s answer = Gives (Entangles s) entanglementForC answer
@@ -85,7 +85,7 @@ EntanglesForC s answer = Gives (Entangles s) entanglementForC answer
 -- ---- free
 
 abbrev pub freeForC : Freed → TangleFree
-freeForC a = record { refusal = a .refusal .number; before = a .before; after = a .after }
+freeForC a = record { refusal = a .refusal .number; row = a .refusal .row; before = a .before; after = a .after }
 
 abbrev pub FreesForC : List ℕ → ℕ → TangleFree → List ℕ → Type 0
 FreesForC s side answer s′ = Gives (λ a. Frees s side a s′) freeForC answer
@@ -93,7 +93,14 @@ FreesForC s side answer s′ = Gives (λ a. Frees s side a s′) freeForC answer
 -- ---- run
 
 abbrev pub runForC : Ran → TangleRun
-runForC a = record { refusal = a .refusal .number; first = a .first; last = a .last; turns = a .turns; settled = a .settled }
+runForC a = record {
+  refusal = a .refusal .number;
+  row = a .refusal .row;
+  first = a .first;
+  last = a .last;
+  turns = a .turns;
+  settled = a .settled;
+}
 
 abbrev pub RunsForC : List ℕ → ℕ → TangleRun → List ℕ → Type 0
 RunsForC s allowance answer s′ = Gives (λ a. Runs s allowance a s′) runForC answer
@@ -101,7 +108,7 @@ RunsForC s allowance answer s′ = Gives (λ a. Runs s allowance a s′) runForC
 -- ---- better
 
 abbrev pub betterForC : Compared → TangleBetter
-betterForC a = record { refusal = a .refusal .number; which = a .which; length = a .length }
+betterForC a = record { refusal = a .refusal .number; row = a .refusal .row; which = a .which; length = a .length }
 
 abbrev pub ComparesForC : List ℕ → ℕ → List ℕ → List ℕ → TangleBetter → Type 0
 ComparesForC s side first second answer = Gives (Compares s side first second) betterForC answer
@@ -109,7 +116,7 @@ ComparesForC s side first second answer = Gives (Compares s side first second) b
 -- ---- unpack
 
 abbrev pub unpackForC : Unpacked → TangleUnpack
-unpackForC a = record { refusal = a .refusal .number; hold = a .hold; n = a .n }
+unpackForC a = record { refusal = a .refusal .number; row = a .refusal .row; hold = a .hold; n = a .n }
 
 abbrev pub UnpacksForC : List ℕ → List ℕ → List ℕ → List ℕ → List ℕ → List ℕ → TangleUnpack →
     List ℕ → List ℕ → List ℕ → List ℕ → List ℕ → Type 0

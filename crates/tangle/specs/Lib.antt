@@ -1,3 +1,4 @@
 pub mod Narrowed
 pub mod ForC
 pub mod Outcomes
+pub mod RowsForC

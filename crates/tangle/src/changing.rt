@@ -18,6 +18,7 @@ pub extern "C" fn tangle_hold(s: &mut [u8], letter: u32) -> TangleRefusal
     let refusal = record::set_hold(s, in_8_bits(letter));
     TangleRefusal {
         refusal: refusal.number as u32,
+        row: refusal.row as u32,
     }
 }
 
@@ -29,6 +30,7 @@ pub extern "C" fn tangle_free(s: &mut [u8], side: u32) -> TangleFree
     let freed = calls_turns::free(s, in_16_bits(side));
     TangleFree {
         refusal: freed.refusal.number as u32,
+        row: freed.refusal.row as u32,
         before: freed.before,
         after: freed.after,
     }
@@ -42,6 +44,7 @@ pub extern "C" fn tangle_run(s: &mut [u8], allowance: u32) -> TangleRun
     let ran = calls_turns::run(s, allowance);
     TangleRun {
         refusal: ran.refusal.number as u32,
+        row: ran.refusal.row as u32,
         first: ran.first,
         last: ran.last,
         turns: ran.turns,
@@ -58,5 +61,6 @@ pub extern "C" fn tangle_hands(s: &mut [u8], list: &[HandEntry]) -> TangleRefusa
     let refusal = calls_hand_entries::hands_named(s, list);
     TangleRefusal {
         refusal: refusal.number as u32,
+        row: refusal.row as u32,
     }
 }

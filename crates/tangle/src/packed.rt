@@ -46,6 +46,7 @@ pub extern "C" fn tangle_pack(
     );
     TangleRefusal {
         refusal: refusal.number as u32,
+        row: refusal.row as u32,
     }
 }
 
@@ -79,6 +80,7 @@ pub extern "C" fn tangle_unpack(
     let unpacked = record_unpacking::unpack(s, left, right, links, leftlayout, rightlayout);
     TangleUnpack {
         refusal: unpacked.refusal.number as u32,
+        row: unpacked.refusal.row as u32,
         hold: unpacked.hold as u32,
         n: unpacked.n as u32,
     }

@@ -13,6 +13,7 @@ pub extern "C" fn tangle_better(s: &[u8], side: u32, first: &[u16], second: &[u1
     let compared = calls_better::compare(s, in_16_bits(side), first, second);
     TangleBetter {
         refusal: compared.refusal.number as u32,
+        row: compared.refusal.row as u32,
         which: compared.which as u32,
         length: compared.length as u32,
     }
@@ -31,5 +32,6 @@ pub extern "C" fn tangle_better_check(
     let refusal = calls_better::better_check(s, in_16_bits(side), first, second);
     TangleRefusal {
         refusal: refusal.number as u32,
+        row: refusal.row as u32,
     }
 }

@@ -16,6 +16,7 @@ pub extern "C" fn tangle_check(s: &[u8]) -> TangleRefusal
     let refusal = record::check(s);
     TangleRefusal {
         refusal: refusal.number as u32,
+        row: refusal.row as u32,
     }
 }
 
@@ -27,6 +28,7 @@ pub extern "C" fn tangle_order(s: &[u8], side: u32, out: &mut [u16]) -> TangleRe
     let refusal = calls_show::order(s, in_16_bits(side), out);
     TangleRefusal {
         refusal: refusal.number as u32,
+        row: refusal.row as u32,
     }
 }
 
@@ -38,6 +40,7 @@ pub extern "C" fn tangle_count(s: &[u8]) -> TangleCount
     let counted = calls_show::count(s);
     TangleCount {
         refusal: counted.refusal.number as u32,
+        row: counted.refusal.row as u32,
         count: counted.count,
     }
 }
@@ -50,6 +53,7 @@ pub extern "C" fn tangle_pairs(s: &[u8]) -> TangleCount
     let counted = calls_show::pairs(s);
     TangleCount {
         refusal: counted.refusal.number as u32,
+        row: counted.refusal.row as u32,
         count: counted.count,
     }
 }
@@ -63,22 +67,24 @@ pub extern "C" fn tangle_entanglement(s: &[u8]) -> TangleEntanglement
     match entangled {
         Entangled::Ratio(d, w, ratio) => TangleEntanglement {
             refusal: 0,
+            row: 0,
             displacement: d,
             worst: w,
             has_ratio: 1,
             ratio: ratio,
         },
-        Entangled::NoRatio => no_ratio(0),
-        Entangled::Refused(refusal) => no_ratio(refusal.number),
+        Entangled::NoRatio => no_ratio(0, 0),
+        Entangled::Refused(refusal) => no_ratio(refusal.number, refusal.row),
     }
 }
 
-// The refusal's number, or 0 for a single leaf, and no ratio.
-fn no_ratio(number: u16) -> TangleEntanglement
-    ensures { λ r. ⌜ r ≡ noRatio number ⌝ }
+// The refusal's number and its row, or 0 and 0 for a single leaf, and no ratio.
+fn no_ratio(number: u16, row: u16) -> TangleEntanglement
+    ensures { λ r. ⌜ r ≡ noRatio number row ⌝ }
 {
     TangleEntanglement {
         refusal: number as u32,
+        row: row as u32,
         displacement: 0,
         worst: 0,
         has_ratio: 0,

@@ -1,6 +1,6 @@
 -- `hands_named` meets its contract: a walk of its MIR, by hand. One call tests the list, the record lent to it as a
--- `&`; each turn lends the record again, and one call turns a row over. Between the turns stands `HandsUnderWay`, of the entries left. One
--- call makes the answer, so that nothing here knows what is in a refusal.
+-- `&`, and one tells the refusal, the record lent again; each turn lends it as a `&mut`, and one call turns a row over. Between the turns
+-- stands `HandsUnderWay`, of the entries left. Calls make the answers, so that nothing here knows what is in a refusal.
 use mathlib.Core.Path.{_≡_, refl, sym, ap, _∙_, subst}
 use mathlib.Core.WellFounded.{WellFounded, InvImage·wf}
 use mathlib.Core.List.{List, [], _∷_, map}
@@ -58,12 +58,17 @@ use Rattle.record_fields.specs.declared.refusal.Refusal.{Refusal}
 use Rattle.record_fields.specs.Fields.{holdOf, sizeOf}
 use Rattle.record_fields.specs.Meaning.{layoutsOf, relaid}
 use Rattle.record_fields.specs.Refused.{refused}
+use Rattle.record_fields.specs.Told.{OwnRow, toldOf}
 use Rattle.record_fields.proofs.refusal.Refusal as E
 use Rattle.record_fields.proofs.refusal.Refusal.Laws as E′
 use Rattle.record_fields.proofs.refusal.refused as refuse
 use Rattle.record_fields.proofs.refusal.refused.Symbol as refuse-def
 use Rattle.record_fields.proofs.refusal.refused.Symbol.{name as #refuse}
 use Rattle.record_fields.proofs.refusal.refused.Met as refuse-thm
+use Rattle.record.proofs.told as tell
+use Rattle.record.proofs.told.Symbol as tell-def
+use Rattle.record.proofs.told.Symbol.{name as #tell}
+use Rattle.record.proofs.told.Met as tell-thm
 use Rattle.calls_hand_entries.specs.declared.hand_entries.HandEntry.{HandEntry}
 use Rattle.record_arrays.specs.Sides.{RecordOver as Accepted}
 use Rattle.calls_hands.specs.Refusals.{Hand, hand, handsRefusal}
@@ -72,7 +77,7 @@ use Rattle.calls_hand_entries.specs.Entries.{handIn}
 use Rattle.calls_hand_entries.proofs.Again.{LentAgain, SharedAgain, lends-again, comes-back, lends-shared, shared-back}
 use Rattle.record_arrays.proofs.AsItStands.{over-its-leaves}
 use Rattle.calls_hand_entries.proofs.ByHand.{tail, idle, has, not-none, is-none}
-use Rattle.calls_hands.proofs.HandLists.{rest-cons, rest-none, handing-accepted, hands-refused, hands-accepted}
+use Rattle.calls_hands.proofs.HandLists.{rest-cons, rest-none, handing-accepted, hands-own, hands-refused, hands-accepted}
 use Rattle.calls_hands.proofs.TurnedRows.{HandsUnderWay, turning-start, turning-asks, turning-more, turning-end}
 use Rattle.calls_hand_entries.proofs.hand_entries.HandEntry as T
 use Rattle.calls_hand_entries.proofs.hand_entries.HandEntry.Laws as T′
@@ -139,6 +144,9 @@ module _ {M : Type 1} (𝓤 : URA M) (H : Heap 𝓤) (A : Atoms 𝓤) (mem : Mem
   abbrev Refuse : Contract 𝓤
   Refuse = tripleOf 𝓤 H A refuse.signature (refuse.spec 𝓤 H A mem run)
 
+  abbrev Tell : Contract 𝓤
+  Tell = tripleOf 𝓤 H A tell.signature (tell.spec 𝓤 H A mem run)
+
 module _ {M : Type 1} (𝓤 : URA M) (H : Heap 𝓤) (A : Atoms 𝓤) (W : Given 𝓤 H A) (mem : Memory → SProp 𝓤) (run : Routine → Fun 𝓤)
     (κ κ′ : Lft) (q q′ : Share) (b o : ℕ) (γ : GName) (bs : List ℕ) (b′ o′ : ℕ) (γ′ : GName) (ys : List HandEntry) where
   abbrev m : ℕ
@@ -189,7 +197,7 @@ module _ {M : Type 1} (𝓤 : URA M) (H : Heap 𝓤) (A : Atoms 𝓤) (W : Given
   abbrev entry : ℕ → HandEntry
   entry i = getD ys i none
 
-  -- ---- the call before the loop, the record lent as a `&` for the lifetime ν under the name δ
+  -- ---- the calls before the loop, the record lent as a `&` for the lifetime ν under the name δ: the test
 
   abbrev Shown : ℕ → GName → Fml
   Shown ν δ = ShrSlice (named 0) (ν ∷ []) u8 .own (rec δ bs) (at .0)
@@ -213,6 +221,26 @@ module _ {M : Type 1} (𝓤 : URA M) (H : Heap 𝓤) (A : Atoms 𝓤) (W : Given
       (fact 𝓤 (r ≡ handsRefusal bs whole-list))
   says-test ν δ r =
       exE 𝓤 _ (λ ws. snd∗ 𝓤 (sem 𝓤 H A (lasts test.ended (ν ∷ [], (κ′, tt)) (tested δ) ws)) (fact 𝓤 (r ≡ handsRefusal bs whole-list)))
+
+  -- the refusal is told, of the number k
+
+  abbrev telling : GName → ℕ → RefT (List ℕ) × (ℕ × Unit {0})
+  telling δ k = (rec δ bs, (k, tt))
+
+  abbrev to-tell : ℕ → GName → ℕ → Tell 𝓤 H A mem run .Ghost
+  to-tell ν δ k = (((ν ∷ [], tt), (fullShare, tt), tt, telling δ k, (at .0, (vint w16 k ∷ [], tt))), tt)
+
+  asks-tell : (ν : ℕ) (δ : GName) (k : ℕ) → OwnRow bs k → k < 2 ^ 16 →
+      ent 𝓤 (sep 𝓤 (A .lft (ν ∷ []) fullShare) (sem 𝓤 H A (Shown ν δ))) (Tell 𝓤 H A mem run .pre (to-tell ν δ k))
+  asks-tell ν δ k own g =
+      qed W (‵ (flft (ν ∷ []) fullShare) ∷ ‵ (Shown ν δ) ∷ []) ∵ says ! own $
+      nothing ! $ move ! (1 ∷ 0 ∷ []) $ join ! $ frame ! $
+      nothing ! $ owned ! u16 (Is u16) (uint-makes 𝓤 H A W w16) k _ (refl, g) $ fjoin ! $ move ! (1 ∷ 0 ∷ []) $ fjoin ! $ done !
+
+  says-tell : (ν : ℕ) (δ : GName) (k : ℕ) (r : Refusal) →
+      ent 𝓤 (ensured 𝓤 H A tell.ended (tell.clauses 𝓤 H A mem run) (ν ∷ [], tt) (telling δ k) tt r) (fact 𝓤 (r ≡ toldOf bs k))
+  says-tell ν δ k r =
+      exE 𝓤 _ (λ ws. snd∗ 𝓤 (sem 𝓤 H A (lasts tell.ended (ν ∷ [], tt) (telling δ k) ws)) (fact 𝓤 (r ≡ toldOf bs k)))
 
   -- ---- the call that makes the answer, of the number k
 
@@ -241,8 +269,8 @@ module _ {M : Type 1} (𝓤 : URA M) (H : Heap 𝓤) (A : Atoms 𝓤) (W : Given
       show ! (λ (a : Refusal). fact 𝓤 (Answer k u a)) r $ by ! (factI 𝓤 (Answer k u r) (emp 𝓤) (e, is)))))
 
   -- a local that the answer is put into
-  typed-answer : (k : ℕ) (u : Val) (r : Refusal) → Answer k u r → Holds (hasTy RefusalTy u) × WT u
-  typed-answer k u r a = LL.lawful E.the-type E′.the-laws 𝓤 H A W .typed r _ (a .1) .0
+  typed-answer : (u : Val) (r : Refusal) → Is E.the-row r (u ∷ []) → Holds (hasTy RefusalTy u) × WT u
+  typed-answer u r is = LL.lawful E.the-type E′.the-laws 𝓤 H A W .typed r _ is .0
 
   -- ---- the call in a turn, the record lent at the list l for the lifetime ν under the name δ
 
@@ -307,8 +335,8 @@ module _ {M : Type 1} (𝓤 : URA M) (H : Heap 𝓤) (A : Atoms 𝓤) (W : Given
 
   module _ (𝓣 : Tables 𝓤 H) (known-test : Triple 𝓤 (𝓣 .C #test) (Test 𝓤 H A mem run))
       (known-turn : Triple 𝓤 (𝓣 .C #turn) (Turn 𝓤 H A mem run)) (known-refuse : Triple 𝓤 (𝓣 .C #refuse) (Refuse 𝓤 H A mem run))
-      (gm : Room u8 m) (gn : Room R n)
-      (l₀ l₁ l₂ l₃ l₄ l₅ l₆ l₇ l₈ l₉ l₁₀ l₁₁ l₁₂ l₁₃ l₁₄ l₁₅ : ℕ) where
+      (known-tell : Triple 𝓤 (𝓣 .C #tell) (Tell 𝓤 H A mem run)) (gm : Room u8 m) (gn : Room R n)
+      (l₀ l₁ l₂ l₃ l₄ l₅ l₆ l₇ l₈ l₉ l₁₀ l₁₁ l₁₂ l₁₃ l₁₄ l₁₅ l₁₆ l₁₇ : ℕ) where
     abbrev C : Calls 𝓤 H
     C = 𝓣 .C
 
@@ -318,8 +346,8 @@ module _ {M : Type 1} (𝓤 : URA M) (H : Heap 𝓤) (A : Atoms 𝓤) (W : Given
     abbrev En : Env 𝓤 H
     En =
         (RefusalTy, l₀) ∷ (RecordTy, l₁) ∷ (ListTy, l₂) ∷ (tyInt w16, l₃) ∷ (tyInt w64, l₄) ∷ (EntryTy, l₅) ∷ (ShownRef, l₆)
-        ∷ (ShownTy, l₇) ∷ (tyBool, l₈) ∷ (tyInt w64, l₉) ∷ (tyBool, l₁₀) ∷ (tyPtr, l₁₁) ∷ (EntryTy, l₁₂)
-        ∷ (tyUnit, l₁₃) ∷ (LentRef, l₁₄) ∷ (LentTy, l₁₅) ∷ []
+        ∷ (ShownTy, l₇) ∷ (tyBool, l₈) ∷ (ShownRef, l₉) ∷ (ShownTy, l₁₀) ∷ (tyInt w64, l₁₁) ∷ (tyBool, l₁₂) ∷ (tyPtr, l₁₃) ∷ (EntryTy, l₁₄)
+        ∷ (tyUnit, l₁₅) ∷ (LentRef, l₁₆) ∷ (LentTy, l₁₇) ∷ []
 
     -- what is held besides the locals, the record at l
     abbrev Held : List ℕ → List (Item 𝓤) → List (Item 𝓤)
@@ -329,27 +357,27 @@ module _ {M : Type 1} (𝓤 : URA M) (H : Heap 𝓤) (A : Atoms 𝓤) (W : Given
 
     abbrev At : Upto → List (Item 𝓤)
     At i =
-        Held (i .0 .1) (idle LentTy l₁₅ (idle LentRef l₁₄ (idle tyUnit l₁₃ (idle EntryTy l₁₂ (idle tyPtr l₁₁ (idle tyBool l₁₀ (
-        idle (tyInt w64) l₉ (idle tyBool l₈ (idle ShownTy l₇ (idle ShownRef l₆ (idle EntryTy l₅ (
+        Held (i .0 .1) (idle LentTy l₁₇ (idle LentRef l₁₆ (idle tyUnit l₁₅ (idle EntryTy l₁₄ (idle tyPtr l₁₃ (idle tyBool l₁₂ (
+        idle (tyInt w64) l₁₁ (idle ShownTy l₁₀ (idle ShownRef l₉ (idle tyBool l₈ (idle ShownTy l₇ (idle ShownRef l₆ (idle EntryTy l₅ (
         has (tyInt w64) l₄ (vint w64 (i .0 .0)) (idle (tyInt w16) l₃ (has ListTy l₂ (sliceVal (b′, o′) n) (
-        has RecordTy l₁ (sliceVal (b, o) m) (idle RefusalTy l₀ []))))))))))))))))
+        has RecordTy l₁ (sliceVal (b, o) m) (idle RefusalTy l₀ []))))))))))))))))))
 
     -- nothing is left to do but to free the locals
     abbrev Over : List ℕ → List (Item 𝓤)
     Over l =
-        Held l (idle LentTy l₁₅ (idle LentRef l₁₄ (idle tyUnit l₁₃ (idle EntryTy l₁₂ (idle tyPtr l₁₁ (idle tyBool l₁₀ (
-        idle (tyInt w64) l₉ (idle tyBool l₈ (idle ShownTy l₇ (idle ShownRef l₆ (idle EntryTy l₅ (idle (tyInt w64) l₄ (
-        idle (tyInt w16) l₃ (idle ListTy l₂ (idle RecordTy l₁ (idle RefusalTy l₀ []))))))))))))))))
+        Held l (idle LentTy l₁₇ (idle LentRef l₁₆ (idle tyUnit l₁₅ (idle EntryTy l₁₄ (idle tyPtr l₁₃ (idle tyBool l₁₂ (
+        idle (tyInt w64) l₁₁ (idle ShownTy l₁₀ (idle ShownRef l₉ (idle tyBool l₈ (idle ShownTy l₇ (idle ShownRef l₆ (idle EntryTy l₅ (
+        idle (tyInt w64) l₄ (idle (tyInt w16) l₃ (idle ListTy l₂ (idle RecordTy l₁ (idle RefusalTy l₀ []))))))))))))))))))
 
     frees-all : (r : Refusal) (u : Val) (zs : List ℕ) → Hands bs whole-list r zs → length zs ≡ m → Is E.the-row r (u ∷ []) →
         Sq W (Over zs) (frees En (prop (Post u)))
     frees-all r u zs e l is =
-        move ! (36 ∷ 37 ∷ []) $ free1 ! $ move ! (34 ∷ 35 ∷ []) $ free1 ! $ move ! (32 ∷ 33 ∷ []) $ free1 ! $
-        move ! (30 ∷ 31 ∷ []) $ free1 ! $ move ! (28 ∷ 29 ∷ []) $ free1 ! $ move ! (26 ∷ 27 ∷ []) $ free1 ! $
-        move ! (24 ∷ 25 ∷ []) $ free1 ! $ move ! (22 ∷ 23 ∷ []) $ free1 ! $ move ! (20 ∷ 21 ∷ []) $ free1 ! $
-        move ! (18 ∷ 19 ∷ []) $ free1 ! $ move ! (16 ∷ 17 ∷ []) $ free1 ! $ move ! (14 ∷ 15 ∷ []) $ free1 ! $
-        move ! (12 ∷ 13 ∷ []) $ free1 ! $ move ! (10 ∷ 11 ∷ []) $ free1 ! $ move ! (8 ∷ 9 ∷ []) $ free1 ! $
-        move ! (6 ∷ 7 ∷ []) $ free1 ! $ free0 ! $
+        move ! (40 ∷ 41 ∷ []) $ free1 ! $ move ! (38 ∷ 39 ∷ []) $ free1 ! $ move ! (36 ∷ 37 ∷ []) $ free1 ! $
+        move ! (34 ∷ 35 ∷ []) $ free1 ! $ move ! (32 ∷ 33 ∷ []) $ free1 ! $ move ! (30 ∷ 31 ∷ []) $ free1 ! $
+        move ! (28 ∷ 29 ∷ []) $ free1 ! $ move ! (26 ∷ 27 ∷ []) $ free1 ! $ move ! (24 ∷ 25 ∷ []) $ free1 ! $
+        move ! (22 ∷ 23 ∷ []) $ free1 ! $ move ! (20 ∷ 21 ∷ []) $ free1 ! $ move ! (18 ∷ 19 ∷ []) $ free1 ! $
+        move ! (16 ∷ 17 ∷ []) $ free1 ! $ move ! (14 ∷ 15 ∷ []) $ free1 ! $ move ! (12 ∷ 13 ∷ []) $ free1 ! $
+        move ! (10 ∷ 11 ∷ []) $ free1 ! $ move ! (8 ∷ 9 ∷ []) $ free1 ! $ move ! (6 ∷ 7 ∷ []) $ free1 ! $ free0 ! $
         -- [the list's borrow; its token; res; its fact; the record's; its token]
         move ! (2 ∷ 0 ∷ []) $ fjoin ! $ move ! (2 ∷ 0 ∷ []) $ fjoin ! $ keep ! (3 ∷ 1 ∷ 2 ∷ 0 ∷ []) $ by ! (exits r u zs e l is)
 
@@ -368,38 +396,38 @@ module _ {M : Type 1} (𝓤 : URA M) (H : Heap 𝓤) (A : Atoms 𝓤) (W : Given
       turns : (i : Upto) → Sq W (At i) (runs C Λ En mir.turn-1 (anyQ (Turned i)))
       unfolding afterTurn
       turns i =
-          assigns ! (of-opd ! (load ! (from ! (fld ! refl (stop !))) (look-in ! 32 (sub ! 1 refl (whole !))))) (from ! (stop !))
+          assigns ! (of-opd ! (load ! (from ! (fld ! refl (stop !))) (look-in ! 36 (sub ! 1 refl (whole !))))) (from ! (stop !))
           (init ! 18 refl (tt, record { fits = gn .0 })) $
-          assigns ! (bin ! (load ! (from ! (stop !)) (look ! 28 refl)) (load ! (from ! (stop !)) (look ! 18 refl)) tt) (from ! (stop !))
+          assigns ! (bin ! (load ! (from ! (stop !)) (look ! 32 refl)) (load ! (from ! (stop !)) (look ! 18 refl)) tt) (from ! (stop !))
           (init ! 16 refl (tt, tt)) $
           first ! $ branches ! (load ! (from ! (stop !)) (look ! 16 refl))
           (λ less. let h = ltb→lt j n less in let cut = rest-cons handIn none ys j h in
           skips ! $ exec ! C Λ En more (anyQ (Turned i)) $
-          assigns ! (bin ! (load ! (from ! (stop !)) (look ! 28 refl)) (lit ! tt) (record { fits = scaled j h })) (from ! (stop !))
+          assigns ! (bin ! (load ! (from ! (stop !)) (look ! 32 refl)) (lit ! tt) (record { fits = scaled j h })) (from ! (stop !))
           (store ! 18 refl (tt, record { fits = scaled j h })) $
-          assigns ! (bin ! (load ! (from ! (fld ! refl (stop !))) (look-in ! 32 (sub ! 0 refl (whole !))))
+          assigns ! (bin ! (load ! (from ! (fld ! refl (stop !))) (look-in ! 36 (sub ! 0 refl (whole !))))
           (load ! (from ! (stop !)) (look ! 18 refl)) tt) (from ! (stop !)) (init ! 14 refl (tt, tt)) $
-          rewrite ! 14 (λ (p : ℕ). ‵ (fat fullShare tyPtr l₁₁ 0 (vptr b′ p))) (sym (place-is 8 o′ j)) refl $
+          rewrite ! 14 (λ (p : ℕ). ‵ (fat fullShare tyPtr l₁₃ 0 (vptr b′ p))) (sym (place-is 8 o′ j)) refl $
           looks-slice ! tt R (Is R) (shows 𝓤 H A R) vals (LL.tells T.the-type T′.the-laws) (LL.copy T.the-type T′.the-copy 𝓤 H A W)
           ys b′ o′ (λ s.
           elem-out ! R (Is R) (shows 𝓤 H A R) vals (LL.tells T.the-type T′.the-laws) s ys j none b′ o′ h (λ g.
           use1 W (‵ (fat s EntryTy b′ (place 8 o′ j) (T′.lowered (entry j))))
           (W .laws .raw-at s EntryTy b′ (place 8 o′ j) (T′.lowered (entry j))) $
-          -- [list[i]; what it owns; the others; what shuts; the list's borrow; res; its fact; the record's; its token; _15; …]
+          -- [list[i]; what it owns; the others; what shuts; the list's borrow; res; its fact; the record's; its token; _17; …]
           assigns ! (of-opd ! (load ! (from ! (hop ! (look ! 17 refl) (stop !))) (look ! 0 refl))) (from ! (stop !))
           (init ! 15 refl (LL.lawful T.the-type T′.the-laws 𝓤 H A W .typed (entry j) _ g .0)) $
           assigns ! (of-opd ! (load ! (from ! (stop !)) (look ! 15 refl))) (from ! (stop !))
-          (init ! 29 refl (LL.lawful T.the-type T′.the-laws 𝓤 H A W .typed (entry j) _ g .0)) $
+          (init ! 33 refl (LL.lawful T.the-type T′.the-laws 𝓤 H A W .typed (entry j) _ g .0)) $
           use1 W (‵ (cellAt s (R .mir) (vals (entry j)) b′ (place 8 o′ j)))
           (W .laws .at-raw s EntryTy b′ (place 8 o′ j) (T′.lowered (entry j))) $
           elem-back ! R s ys j none (vals (entry j)) b′ o′ h $ shuts-slice ! tt R s ys b′ o′ $
-          -- [the list's token; its borrow; res; its fact; the record's; its token; _15; …]: the record is lent again
-          assigns ! (addr ! (from ! (fld ! refl (hop ! (look-in ! 34 (sub ! 0 refl (whole !))) (stop !))))) (from ! (stop !))
+          -- [the list's token; its borrow; res; its fact; the record's; its token; _17; …]: the record is lent again
+          assigns ! (addr ! (from ! (fld ! refl (hop ! (look-in ! 38 (sub ! 0 refl (whole !))) (stop !))))) (from ! (stop !))
           (init ! 8 refl (tt, tt)) $
           assigns ! (agg ! (and-then ! (load ! (from ! (stop !)) (look ! 8 refl))
-          (and-then ! (load ! (from ! (fld ! refl (stop !))) (look-in ! 34 (sub ! 1 refl (whole !)))) (no-more !)))) (from ! (stop !))
+          (and-then ! (load ! (from ! (fld ! refl (stop !))) (look-in ! 38 (sub ! 1 refl (whole !)))) (no-more !)))) (from ! (stop !))
           (init ! 6 refl (tt, (tt, (record { fits = gm .0 }, tt)))) $
-          rewrite ! 6 (λ (c : ℕ). ‵ (fat fullShare LentTy l₁₅ 0 (sliceVal (b, o) c))) (sym (i .1 .1)) refl $
+          rewrite ! 6 (λ (c : ℕ). ‵ (fat fullShare LentTy l₁₇ 0 (sliceVal (b, o) c))) (sym (i .1 .1)) refl $
           rewrite ! 4 (λ (c : ℕ). ‵ (Lent l c)) (sym (i .1 .1)) refl $
           lft-new ! tt (λ ν. move ! (5 ∷ 6 ∷ []) $
           use2 W (later (some (λ (δ : GName). ‵ (MutSlice (named 0) (ν ∷ []) u8 .own (rec δ l) (lent l ∷ []))
@@ -408,11 +436,11 @@ module _ {M : Type 1} (𝓤 : URA M) (H : Heap 𝓤) (A : Atoms 𝓤) (W : Given
           move ! (2 ∷ 0 ∷ []) $ use2 W (raw (Turn 𝓤 H A mem run .pre (to-turn ν δ j l)))
           (asks-turn ν δ j l (turning-asks (holdOf bs) (sizeOf bs) bs whole-list (i .1 .2) cut)
           (LL.owed T.the-type T′.the-laws (entry j) _ g .0 .1) (LL.owed T.the-type T′.the-laws (entry j) _ g .1 .0 .1)) $
-          -- [what is asked; what waits; the list's token; its borrow; res; its fact; _15; …]
+          -- [what is asked; what waits; the list's token; its borrow; res; its fact; _17; …]
           calls-at ! (fmOf 𝓤 H (W .laws) 𝓣) (Turn 𝓤 H A mem run) known-turn (to-turn ν δ j l)
           (and-then ! (load ! (from ! (stop !)) (look ! 6 refl))
-          (and-then ! (load ! (from ! (fld ! refl (stop !))) (look-in ! 26 (sub ! 0 refl (whole !))))
-          (and-then ! (load ! (from ! (fld ! refl (stop !))) (look-in ! 26 (sub ! 1 refl (whole !)))) (no-more !)))) (λ u.
+          (and-then ! (load ! (from ! (fld ! refl (stop !))) (look-in ! 30 (sub ! 0 refl (whole !))))
+          (and-then ! (load ! (from ! (fld ! refl (stop !))) (look-in ! 30 (sub ! 1 refl (whole !)))) (no-more !)))) (λ u.
           use1 W (later (some (λ (r : Unit {0}). ((‵ (flft (ν ∷ []) fullShare) ⊛ ‵ ftrue) ⊛ ‵ (unit .own r (u ∷ [])))
           ⊛ raw (ensured 𝓤 H A turn.ended (turn.clauses 𝓤 H A mem run) (ν ∷ [], tt) (turned δ j l) tt r)))) (id⊢ 𝓤 _) $
           await ! tt $ pick ! (λ r.
@@ -421,18 +449,18 @@ module _ {M : Type 1} (𝓤 : URA M) (H : Heap 𝓤) (A : Atoms 𝓤) (W : Given
           ‵ (lasts turn.ended (ν ∷ [], tt) (turned δ j l) zs) ⊛ raw (fact 𝓤 (Said j l (zs .0))))) (id⊢ 𝓤 _) $ pick ! (λ zs.
           split ! $ move ! (1 ∷ []) $ heard ! (Said j l (zs .0)) (λ e. fsplit ! $ fsplit ! $ move ! (1 ∷ []) $ feqL ! (λ same.
           move ! (2 ∷ []) $ split ! $ move ! (1 ∷ []) $ feqL ! (λ is.
-          -- [the call's token; the last list; …; what waits; the list's token; its borrow; res; its fact; _15; …]
+          -- [the call's token; the last list; …; what waits; the list's token; its borrow; res; its fact; _17; …]
           land ! (from ! (stop !)) (init ! 12 refl (subst (λ (v : Val). Holds (hasTy tyUnit v) × WT v) (sym (ap only is)) (tt, tt))) $
           -- the lifetime is ended, and the record comes back at that list
           split ! $ lft-end ! tt $ move ! (0 ∷ 4 ∷ 2 ∷ []) $
           use3 W (later (‵ (Lent (zs .0) (length l)) ⊛ ‵ (flft κ q)))
           (comes-back u8 κ (ν ∷ []) q γ b o 𝓤 H A W (named 0) (named 0) l δ (zs .0) (subst (Room u8) (sym (i .1 .1)) gm) same) $
           await ! tt $ split ! $ rewrite ! 0 (λ (c : ℕ). ‵ (Lent (zs .0) c)) (i .1 .1) refl $
-          -- [the record's; its token; true; …; the list's token; its borrow; res; its fact; _15; …]
-          assigns-last ! (bin ! (load ! (from ! (stop !)) (look ! 30 refl)) (lit ! tt) (record { fits = next-fits j h })) (from ! (stop !))
-          (store ! 30 refl (tt, record { fits = next-fits j h })) $
+          -- [the record's; its token; true; …; the list's token; its borrow; res; its fact; _17; …]
+          assigns-last ! (bin ! (load ! (from ! (stop !)) (look ! 34 refl)) (lit ! tt) (record { fits = next-fits j h })) (from ! (stop !))
+          (store ! 34 refl (tt, record { fits = next-fits j h })) $
           move ! (2 ∷ 3 ∷ []) $ drop ! $ drop ! $ forget ! 6 refl $ forget ! 8 refl $ forget ! 10 refl $ forget ! 12 refl $
-          forget ! 14 refl $ forget ! 16 refl $ forget ! 18 refl $ forget ! 26 refl $ move ! (3 ∷ 2 ∷ 4 ∷ 5 ∷ 0 ∷ 1 ∷ []) $
+          forget ! 14 refl $ forget ! 16 refl $ forget ! 18 refl $ forget ! 30 refl $ move ! (3 ∷ 2 ∷ 4 ∷ 5 ∷ 0 ∷ 1 ∷ []) $
           again ! Nearer At i (
             (j + 1, zs .0),
             (
@@ -445,9 +473,9 @@ module _ {M : Type 1} (𝓤 : URA M) (H : Heap 𝓤) (A : Atoms 𝓤) (W : Given
           use0 W (raw (Refuse 𝓤 H A mem run .pre (to-refuse 0))) (asks-refuse 0 (lit< tt)) $
           calls-at ! (fmOf 𝓤 H (W .laws) 𝓣) (Refuse 𝓤 H A mem run) known-refuse (to-refuse 0) (and-then ! (lit ! tt) (no-more !)) (λ u.
           use1 W (later (some (λ (r : Refusal). raw (fact 𝓤 (Answer 0 u r))))) (says-refuse 0 u) $ await ! tt $ pick ! (λ r.
-          heard ! (Answer 0 u r) (λ a. land ! (from ! (stop !)) (init ! 36 refl (typed-answer 0 u r a)) $
-          returns ! (look ! 36 refl) $ forget ! 16 refl $ forget ! 18 refl $ forget ! 28 refl $ forget ! 32 refl $
-          forget ! 34 refl $ forget ! 36 refl $ frees-all r u l (ends r₀ told passed i (nltb→le j n over) (a .0)) (i .1 .1) (a .1)))))
+          heard ! (Answer 0 u r) (λ a. land ! (from ! (stop !)) (init ! 40 refl (typed-answer u r (a .1))) $
+          returns ! (look ! 40 refl) $ forget ! 16 refl $ forget ! 18 refl $ forget ! 32 refl $ forget ! 36 refl $
+          forget ! 38 refl $ forget ! 40 refl $ frees-all r u l (ends r₀ told passed i (nltb→le j n over) (a .0)) (i .1 .1) (a .1)))))
         where
           j : ℕ
           j = i .0 .0
@@ -458,83 +486,105 @@ module _ {M : Type 1} (𝓤 : URA M) (H : Heap 𝓤) (A : Atoms 𝓤) (W : Given
     -- the list is tested, and k was found
     abbrev Tested : ℕ → List (Item 𝓤)
     Tested k =
-        Held bs (idle LentTy l₁₅ (idle LentRef l₁₄ (idle tyUnit l₁₃ (idle EntryTy l₁₂ (idle tyPtr l₁₁ (idle tyBool l₁₀ (
-        idle (tyInt w64) l₉ (idle tyBool l₈ (has ShownTy l₇ (sliceVal (b, o) m) (has ShownRef l₆ (vptr b o) (
-        idle EntryTy l₅ (idle (tyInt w64) l₄ (has (tyInt w16) l₃ (vint w16 k) (has ListTy l₂ (sliceVal (b′, o′) n) (
-        has RecordTy l₁ (sliceVal (b, o) m) (idle RefusalTy l₀ []))))))))))))))))
+        Held bs (idle LentTy l₁₇ (idle LentRef l₁₆ (idle tyUnit l₁₅ (idle EntryTy l₁₄ (idle tyPtr l₁₃ (idle tyBool l₁₂ (
+        idle (tyInt w64) l₁₁ (idle ShownTy l₁₀ (idle ShownRef l₉ (idle tyBool l₈ (has ShownTy l₇ (sliceVal (b, o) m) (
+        has ShownRef l₆ (vptr b o) (idle EntryTy l₅ (idle (tyInt w64) l₄ (has (tyInt w16) l₃ (vint w16 k) (
+        has ListTy l₂ (sliceVal (b′, o′) n) (has RecordTy l₁ (sliceVal (b, o) m) (idle RefusalTy l₀ []))))))))))))))))))
 
     tests-on : (k : ℕ) → k ≡ handsRefusal bs whole-list → k < 2 ^ 16 → Sq W (Tested k) (runs C Λ En mir.t-4 (atRet En Post))
     tests-on k e g =
-        assigns ! (bin ! (load ! (from ! (stop !)) (look ! 30 refl)) (lit ! tt) tt) (from ! (stop !)) (init ! 20 refl (tt, tt)) $
-        first ! $ branches ! (load ! (from ! (stop !)) (look ! 20 refl))
-        (λ bad. use0 W (raw (Refuse 𝓤 H A mem run .pre (to-refuse k))) (asks-refuse k g) $
-        calls-at ! (fmOf 𝓤 H (W .laws) 𝓣) (Refuse 𝓤 H A mem run) known-refuse (to-refuse k)
-        (and-then ! (load ! (from ! (stop !)) (look ! 31 refl)) (no-more !)) (λ u.
-        use1 W (later (some (λ (r : Refusal). raw (fact 𝓤 (Answer k u r))))) (says-refuse k u) $ await ! tt $ pick ! (λ r.
-        heard ! (Answer k u r) (λ a. land ! (from ! (stop !)) (init ! 36 refl (typed-answer k u r a)) $
-        returns-within ! Post refl (look ! 36 refl) $ forget ! 20 refl $ forget ! 22 refl $ forget ! 24 refl $ forget ! 30 refl $
-        forget ! 32 refl $ forget ! 34 refl $ forget ! 36 refl $
-        frees-all r u bs (hands-refused bs whole-list e (not-none k bad) (a .0)) refl (a .1)))))
+        assigns ! (bin ! (load ! (from ! (stop !)) (look ! 34 refl)) (lit ! tt) tt) (from ! (stop !)) (init ! 24 refl (tt, tt)) $
+        first ! $ branches ! (load ! (from ! (stop !)) (look ! 24 refl))
+        -- the record is lent as a `&` once more
+        (λ bad. assigns ! (addr ! (from ! (fld ! refl (hop ! (look-in ! 38 (sub ! 0 refl (whole !))) (stop !))))) (from ! (stop !))
+        (init ! 22 refl (tt, tt)) $
+        assigns ! (agg ! (and-then ! (load ! (from ! (stop !)) (look ! 22 refl))
+        (and-then ! (load ! (from ! (fld ! refl (stop !))) (look-in ! 38 (sub ! 1 refl (whole !)))) (no-more !)))) (from ! (stop !))
+        (init ! 20 refl (tt, (tt, (record { fits = gm .0 }, tt)))) $
+        lft-new ! tt (λ ν. move ! (5 ∷ 6 ∷ []) $
+        use2 W (later (some (λ (δ : GName). ‵ (Shown ν δ) ⊛ ‵ (SharedAgain u8 κ (ν ∷ []) q γ b o bs))))
+        (lends-shared u8 κ (ν ∷ []) q γ b o 𝓤 H A W (named 0) (named 0) bs) $ await ! tt $ pick ! (λ δ. split ! $
+        -- [the record's `&`; what waits; the call's token; the list's borrow; its token; res; its fact; _17; …]
+        move ! (2 ∷ 0 ∷ []) $ use2 W (raw (Tell 𝓤 H A mem run .pre (to-tell ν δ k))) (asks-tell ν δ k (hands-own bs whole-list e) g) $
+        -- [what is asked; what waits; the list's borrow; its token; res; its fact; _17; …]
+        calls-at ! (fmOf 𝓤 H (W .laws) 𝓣) (Tell 𝓤 H A mem run) known-tell (to-tell ν δ k)
+        (and-then ! (load ! (from ! (stop !)) (look ! 20 refl)) (and-then ! (load ! (from ! (stop !)) (look ! 34 refl)) (no-more !))) (λ u.
+        use1 W (later (some (λ (r : Refusal). ((‵ (flft (ν ∷ []) fullShare) ⊛ ‵ ftrue) ⊛ ‵ (E.the-row .own r (u ∷ [])))
+        ⊛ raw (ensured 𝓤 H A tell.ended (tell.clauses 𝓤 H A mem run) (ν ∷ [], tt) (telling δ k) tt r)))) (id⊢ 𝓤 _) $
+        await ! tt $ pick ! (λ r.
+        split ! $ move ! (1 ∷ []) $ use1 W (raw (fact 𝓤 (r ≡ toldOf bs k))) (says-tell ν δ k r) $
+        heard ! (r ≡ toldOf bs k) (λ a. split ! $ move ! (1 ∷ []) $
+        -- [the answer; its tokens; what waits; the list's borrow; its token; res; its fact; _17; …]
+        peeks ! E.the-row (Is E.the-row) (shows 𝓤 H A E.the-row) r (u ∷ []) (λ is.
+        land ! (from ! (stop !)) (init ! 41 refl (typed-answer u r is)) $
+        -- the lifetime is ended, and the record comes back
+        drop ! $ split ! $ lft-end ! tt $ move ! (0 ∷ 2 ∷ []) $
+        use2 W (later (‵ (Lent bs m) ⊛ ‵ (flft κ q))) (shared-back u8 κ (ν ∷ []) q γ b o 𝓤 H A W (named 0) (named 0) bs gm) $
+        await ! tt $ split ! $ move ! (2 ∷ []) $ drop ! $ move ! (2 ∷ 3 ∷ 4 ∷ 5 ∷ 0 ∷ 1 ∷ []) $
+        returns-within ! Post refl (look ! 40 refl) $ forget ! 20 refl $ forget ! 22 refl $ forget ! 24 refl $ forget ! 26 refl $
+        forget ! 28 refl $ forget ! 34 refl $ forget ! 36 refl $ forget ! 38 refl $ forget ! 40 refl $
+        frees-all r u bs (hands-refused bs whole-list e (not-none k bad) a) refl is)))))))
         (λ passed. skips ! $ exec ! C Λ En mir.t-6 (atRet En Post) $
-        assigns ! (of-opd ! (lit ! tt)) (from ! (stop !)) (init ! 28 refl (tt, record { fits = lit< tt })) $
-        forget ! 20 refl $ forget ! 22 refl $ forget ! 24 refl $ forget ! 30 refl $
+        assigns ! (of-opd ! (lit ! tt)) (from ! (stop !)) (init ! 32 refl (tt, record { fits = lit< tt })) $
+        forget ! 24 refl $ forget ! 26 refl $ forget ! 28 refl $ forget ! 34 refl $
         first ! $ blocks ! $ loops ! 𝓣 Nearer Nearer-wf At (turns k e (is-none k passed)) ((0, bs), starts k e (is-none k passed)))
 
   walk : (𝓣 : Tables 𝓤 H) → Triple 𝓤 (𝓣 .C #test) (Test 𝓤 H A mem run) → Triple 𝓤 (𝓣 .C #turn) (Turn 𝓤 H A mem run) →
-      Triple 𝓤 (𝓣 .C #refuse) (Refuse 𝓤 H A mem run) → Room u8 m → Room R n →
+      Triple 𝓤 (𝓣 .C #refuse) (Refuse 𝓤 H A mem run) → Triple 𝓤 (𝓣 .C #tell) (Tell 𝓤 H A mem run) → Room u8 m → Room R n →
       ent 𝓤 (onEntry 𝓤 H A hands.signature (κ, (κ′, tt)) (q, (q′, tt)) x at)
       (WpFn 𝓤 H (𝓣 .C) (𝓣 .Λ) code.function (sliceVal (b, o) m ∷ sliceVal (b′, o′) n ∷ []) Post)
-  walk 𝓣 known-test known-turn known-refuse gm gn =
+  walk 𝓣 known-test known-turn known-refuse known-tell gm gn =
       qed W ((‵ (flft κ q) ⊛ ‵ (flft κ′ q′) ⊛ ‵ ftrue) ∷ ‵ (owns (MutSlice (named 0) κ u8 ∷ ShrSlice (named 1) κ′ R ∷ []) x at) ∷ []) ∵
       enter ! (𝓣 .C) (𝓣 .Λ) code.function (sliceVal (b, o) m ∷ sliceVal (b′, o′) n ∷ []) _ $
       alloc1 ! (λ l₀. alloc1 ! (λ l₁. alloc1 ! (λ l₂. alloc1 ! (λ l₃. alloc1 ! (λ l₄. alloc1 ! (λ l₅.
       alloc1 ! (λ l₆. alloc1 ! (λ l₇. alloc1 ! (λ l₈. alloc1 ! (λ l₉. alloc1 ! (λ l₁₀. alloc1 ! (λ l₁₁.
-      alloc1 ! (λ l₁₂. alloc1 ! (λ l₁₃. alloc1 ! (λ l₁₄. alloc1 ! (λ l₁₅. alloc0 ! $ params1 ! $
-      pass1 ! (init ! 28 refl (tt, (tt, (record { fits = gm .0 }, tt)))) $
-      pass1 ! (init ! 26 refl (tt, (tt, (record { fits = gn .0 }, tt)))) $ pass0 ! $
+      alloc1 ! (λ l₁₂. alloc1 ! (λ l₁₃. alloc1 ! (λ l₁₄. alloc1 ! (λ l₁₅. alloc1 ! (λ l₁₆. alloc1 ! (λ l₁₇. alloc0 ! $ params1 ! $
+      pass1 ! (init ! 32 refl (tt, (tt, (record { fits = gm .0 }, tt)))) $
+      pass1 ! (init ! 30 refl (tt, (tt, (record { fits = gn .0 }, tt)))) $ pass0 ! $
       -- what the parameters own is taken apart, and what the list owns is there twice
-      move ! (33 ∷ []) $ fsplit ! $ move ! (1 ∷ []) $ fsplit ! $
+      move ! (37 ∷ []) $ fsplit ! $ move ! (1 ∷ []) $ fsplit ! $
       use1 W (‵ OwnL ⊛ ‵ OwnL) (shr-slice-copy 𝓤 H A W (named 1) κ′ R .twice list (at .1 .0)) $ split ! $
-      fsplit ! $ move ! (1 ∷ []) $ fsplit ! $ move ! (38 ∷ []) $ split ! $ move ! (1 ∷ []) $ split ! $
-      -- [the list's token; true; the record's token; res; the list's borrow; its fact; what it owns; true; the record's; _15; …]
+      fsplit ! $ move ! (1 ∷ []) $ fsplit ! $ move ! (42 ∷ []) $ split ! $ move ! (1 ∷ []) $ split ! $
+      -- [the list's token; true; the record's token; res; the list's borrow; its fact; what it owns; true; the record's; _17; …]
       keep ! (4 ∷ 0 ∷ 3 ∷ 5 ∷ 8 ∷ 2 ∷ 6 ∷ 9 ∷ 10 ∷ 11 ∷ 12 ∷ 13 ∷ 14 ∷ 15 ∷ 16 ∷ 17 ∷ 18 ∷ 19 ∷ 20 ∷ 21 ∷ 22 ∷ 23 ∷ 24
-      ∷ 25 ∷ 26 ∷ 27 ∷ 28 ∷ 29 ∷ 30 ∷ 31 ∷ 32 ∷ 33 ∷ 34 ∷ 35 ∷ 36 ∷ 37 ∷ 38 ∷ 39 ∷ 40 ∷ []) $
-      -- [the list's borrow; its token; res; its fact; the record's; its token; what the list owns; _15; …]: the record is lent as a `&`
-      assigns ! (addr ! (from ! (fld ! refl (hop ! (look-in ! 35 (sub ! 0 refl (whole !))) (stop !))))) (from ! (stop !))
-      (init ! 25 refl (tt, tt)) $
-      assigns ! (agg ! (and-then ! (load ! (from ! (stop !)) (look ! 25 refl))
-      (and-then ! (load ! (from ! (fld ! refl (stop !))) (look-in ! 35 (sub ! 1 refl (whole !)))) (no-more !)))) (from ! (stop !))
-      (init ! 23 refl (tt, (tt, (record { fits = gm .0 }, tt)))) $
+      ∷ 25 ∷ 26 ∷ 27 ∷ 28 ∷ 29 ∷ 30 ∷ 31 ∷ 32 ∷ 33 ∷ 34 ∷ 35 ∷ 36 ∷ 37 ∷ 38 ∷ 39 ∷ 40 ∷ 41 ∷ 42 ∷ 43 ∷ 44 ∷ []) $
+      -- [the list's borrow; its token; res; its fact; the record's; its token; what the list owns; _17; …]: the record is lent as a `&`
+      assigns ! (addr ! (from ! (fld ! refl (hop ! (look-in ! 39 (sub ! 0 refl (whole !))) (stop !))))) (from ! (stop !))
+      (init ! 29 refl (tt, tt)) $
+      assigns ! (agg ! (and-then ! (load ! (from ! (stop !)) (look ! 29 refl))
+      (and-then ! (load ! (from ! (fld ! refl (stop !))) (look-in ! 39 (sub ! 1 refl (whole !)))) (no-more !)))) (from ! (stop !))
+      (init ! 27 refl (tt, (tt, (record { fits = gm .0 }, tt)))) $
       lft-new ! tt (λ ν. move ! (5 ∷ 6 ∷ []) $
       use2 W (later (some (λ (δ : GName). ‵ (Shown ν δ) ⊛ ‵ (SharedAgain u8 κ (ν ∷ []) q γ b o bs))))
       (lends-shared u8 κ (ν ∷ []) q γ b o 𝓤 H A W (named 0) (named 0) bs) $ await ! tt $ pick ! (λ δ. split ! $
-      -- [the record's `&`; what waits; the call's token; the list's borrow; its token; res; its fact; what it owns; _15; …]
+      -- [the record's `&`; what waits; the call's token; the list's borrow; its token; res; its fact; what it owns; _17; …]
       move ! (2 ∷ 4 ∷ 0 ∷ 7 ∷ []) $ join ! $ use3 W (raw (Test 𝓤 H A mem run .pre (to-test ν δ))) (asks-test ν δ) $
-      -- [what is asked; what waits; the list's borrow; res; its fact; _15; …]
+      -- [what is asked; what waits; the list's borrow; res; its fact; _17; …]
       calls-at ! (fmOf 𝓤 H (W .laws) 𝓣) (Test 𝓤 H A mem run) known-test (to-test ν δ)
-      (and-then ! (load ! (from ! (stop !)) (look ! 21 refl)) (and-then ! (load ! (from ! (stop !)) (look ! 31 refl)) (no-more !))) (λ u.
+      (and-then ! (load ! (from ! (stop !)) (look ! 25 refl)) (and-then ! (load ! (from ! (stop !)) (look ! 35 refl)) (no-more !))) (λ u.
       use1 W (later (some (λ (r : ℕ). ((‵ (flft (ν ∷ []) fullShare) ⊛ ‵ (flft κ′ q′) ⊛ ‵ ftrue) ⊛ ‵ (u16 .own r (u ∷ [])))
       ⊛ raw (ensured 𝓤 H A test.ended (test.clauses 𝓤 H A mem run) (ν ∷ [], (κ′, tt)) (tested δ) tt r)))) (id⊢ 𝓤 _) $
       await ! tt $ pick ! (λ r.
       split ! $ move ! (1 ∷ []) $ use1 W (raw (fact 𝓤 (r ≡ handsRefusal bs whole-list))) (says-test ν δ r) $
       heard ! (r ≡ handsRefusal bs whole-list) (λ e. split ! $ move ! (1 ∷ []) $
-      -- [the result; the tokens; what waits; the list's borrow; res; its fact; _15; …]
+      -- [the result; the tokens; what waits; the list's borrow; res; its fact; _17; …]
       peeks ! u16 (Is u16) (shows 𝓤 H A u16) r (u ∷ []) (λ is.
-      land ! (from ! (stop !)) (init ! 30 refl (uint-lawful 𝓤 H A W w16 .typed r _ is .0)) $
-      rewrite ! 30 (λ (v : Val). ‵ (fat fullShare (tyInt w16) l₃ 0 v)) (ap only (is .0)) refl $
+      land ! (from ! (stop !)) (init ! 34 refl (uint-lawful 𝓤 H A W w16 .typed r _ is .0)) $
+      rewrite ! 34 (λ (v : Val). ‵ (fat fullShare (tyInt w16) l₃ 0 v)) (ap only (is .0)) refl $
       -- the lifetime is ended, and the record comes back
       drop ! $ split ! $ lft-end ! tt $ move ! (0 ∷ 2 ∷ []) $
       use2 W (later (‵ (Lent bs m) ⊛ ‵ (flft κ q))) (shared-back u8 κ (ν ∷ []) q γ b o 𝓤 H A W (named 0) (named 0) bs gm) $
       await ! tt $ split ! $ move ! (2 ∷ []) $ split ! $
-      -- [the list's token; true; the record's; its token; the list's borrow; res; its fact; _15; …]
+      -- [the list's token; true; the record's; its token; the list's borrow; res; its fact; _17; …]
       keep ! (4 ∷ 0 ∷ 5 ∷ 6 ∷ 2 ∷ 3 ∷ 7 ∷ 8 ∷ 9 ∷ 10 ∷ 11 ∷ 12 ∷ 13 ∷ 14 ∷ 15 ∷ 16 ∷ 17 ∷ 18 ∷ 19 ∷ 20 ∷ 21 ∷ 22 ∷ 23 ∷ 24
-      ∷ 25 ∷ 26 ∷ 27 ∷ 28 ∷ 29 ∷ 30 ∷ 31 ∷ 32 ∷ 33 ∷ 34 ∷ 35 ∷ 36 ∷ 37 ∷ 38 ∷ []) $
-      tests-on 𝓣 known-test known-turn known-refuse gm gn l₀ l₁ l₂ l₃ l₄ l₅ l₆ l₇ l₈ l₉ l₁₀ l₁₁ l₁₂ l₁₃ l₁₄ l₁₅ r e
-      (is .1)))))))))))))))))))))))
+      ∷ 25 ∷ 26 ∷ 27 ∷ 28 ∷ 29 ∷ 30 ∷ 31 ∷ 32 ∷ 33 ∷ 34 ∷ 35 ∷ 36 ∷ 37 ∷ 38 ∷ 39 ∷ 40 ∷ 41 ∷ 42 ∷ []) $
+      tests-on 𝓣 known-test known-turn known-refuse known-tell gm gn l₀ l₁ l₂ l₃ l₄ l₅ l₆ l₇ l₈ l₉ l₁₀ l₁₁ l₁₂ l₁₃ l₁₄ l₁₅ l₁₆ l₁₇ r e
+      (is .1)))))))))))))))))))))))))
 
 module _ {M : Type 1} (𝓤 : URA M) (H : Heap 𝓤) (A : Atoms 𝓤) (W : Given 𝓤 H A) (mem : Memory → SProp 𝓤) (run : Routine → Fun 𝓤)
     (𝓣 : Tables 𝓤 H) (known-test : Triple 𝓤 (𝓣 .C #test) (Test 𝓤 H A mem run))
-    (known-turn : Triple 𝓤 (𝓣 .C #turn) (Turn 𝓤 H A mem run)) (known-refuse : Triple 𝓤 (𝓣 .C #refuse) (Refuse 𝓤 H A mem run)) where
+    (known-turn : Triple 𝓤 (𝓣 .C #turn) (Turn 𝓤 H A mem run)) (known-refuse : Triple 𝓤 (𝓣 .C #refuse) (Refuse 𝓤 H A mem run))
+    (known-tell : Triple 𝓤 (𝓣 .C #tell) (Tell 𝓤 H A mem run)) where
   abbrev Run : List Val → (Val → SProp 𝓤) → SProp 𝓤
   Run = WpFn 𝓤 H (𝓣 .C) (𝓣 .Λ) code.function
 
@@ -544,7 +594,7 @@ module _ {M : Type 1} (𝓤 : URA M) (H : Heap 𝓤) (A : Atoms 𝓤) (W : Given
       (λ κs. (mut-slice-tells (named 0) (κs .0) u8, (shr-slice-tells (named 1) (κs .1 .0) R, tt)))
       (λ κs qs bounds a g are. via 𝓤 _ (fst∗ 𝓤 _ (emp 𝓤))
       (walk 𝓤 H A W mem run (κs .0) (κs .1 .0) (qs .0) (qs .1 .0) (a .0 .ptr .0) (a .0 .ptr .1) (a .0 .name) (a .0 .now)
-      (a .1 .0 .ptr .0) (a .1 .0 .ptr .1) (a .1 .0 .name) (a .1 .0 .now) 𝓣 known-test known-turn known-refuse (are .0 .0 .1)
+      (a .1 .0 .ptr .0) (a .1 .0 .ptr .1) (a .1 .0 .name) (a .1 .0 .now) 𝓣 known-test known-turn known-refuse known-tell (are .0 .0 .1)
       (are .1 .0 .0 .1)))
 
   hands-meets : Meets 𝓤 H A hands.signature Run (hands.spec 𝓤 H A mem run)
@@ -565,4 +615,5 @@ hands-named-spec 𝓤 H 𝓜 𝓖 𝓡 =
     (cited 𝓤 H (Turn 𝓤 H (𝓖 .A) (𝓜 .mem) (𝓡 .run)) 𝓜 𝓡 code.env #turn turn-def.routine code.calls-calls-hand-entries·hand-entries·turn-entry
     (turn-thm.met 𝓤 H 𝓜 𝓖 𝓡))
     (cited 𝓤 H (Refuse 𝓤 H (𝓖 .A) (𝓜 .mem) (𝓡 .run)) 𝓜 𝓡 code.env #refuse refuse-def.routine code.calls-record-fields·refusal·refused
-    (refuse-thm.met 𝓤 H 𝓜 𝓖 𝓡)))
+    (refuse-thm.met 𝓤 H 𝓜 𝓖 𝓡))
+    (cited 𝓤 H (Tell 𝓤 H (𝓖 .A) (𝓜 .mem) (𝓡 .run)) 𝓜 𝓡 code.env #tell tell-def.routine code.calls-record·told (tell-thm.met 𝓤 H 𝓜 𝓖 𝓡)))

@@ -14,14 +14,17 @@ free-requires c κs = search needs
 cast-t7 : tie.Need-cast-t7
 cast-t7 c = search needs
 
+cast-t8 : tie.Need-cast-t8
+cast-t8 c = search needs
+
 same-length : tie.Need-same-length
 same-length c = search needs
 
 returns : tie.Need-returns
 returns c =
-    let f = c .before .before .before in
+    let f = c .before .before .before .before in
     record { given = f .free .result; called = free-wide (f .before .in-16-bits .ensures) (f .free .ensures); answers = refl }
 
 pub tangle-free-spec : {M : Type 1} → statement M
 tangle-free-spec =
-    tie.close (tie.spec in-16-bits-requires free-requires cast-t7 same-length returns)
+    tie.close (tie.spec in-16-bits-requires free-requires cast-t7 cast-t8 same-length returns)

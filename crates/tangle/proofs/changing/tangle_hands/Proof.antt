@@ -1,5 +1,5 @@
 -- `tangle_hands` meets its contract: a walk of its MIR, by hand. The record is lent again for one call of `hands::hands_named`
--- and comes back as it is after that; the refusal's number is widened.
+-- and comes back as it is after that; the refusal's number and its row are widened.
 use mathlib.Core.Path.{_≡_, refl, ap}
 use mathlib.Core.List.{List, [], _∷_, map}
 use Prim.Native.Nat.{ℕ, _<_, _^_}
@@ -109,11 +109,11 @@ module _ {M : Type 1} (𝓤 : URA M) (H : Heap 𝓤) (A : Atoms 𝓤) (W : Given
   -- ---- the exit: the answer's machine value
 
   abbrev mach : Refusal → Val
-  mach r = vstruct (vcons (vint w32 (r .number)) vnil)
+  mach r = vstruct (vcons (vint w32 (r .number)) (vcons (vint w32 (r .row)) vnil))
 
-  exits : (r : Refusal) (zs : List ℕ) → Hands bs whole-list r zs → length zs ≡ m → r .number < 2 ^ 32 →
+  exits : (r : Refusal) (zs : List ℕ) → Hands bs whole-list r zs → length zs ≡ m → r .number < 2 ^ 32 → r .row < 2 ^ 32 →
       ent 𝓤 (⋆ 𝓤 H A (‵ (flft κ q) ∷ ‵ (flft κ′ q′) ∷ ‵ (Lent zs) ∷ ‵ OwnL ∷ [])) (Post (mach r))
-  exits r zs e l g =
+  exits r zs e l g h =
       qed W (‵ (flft κ q) ∷ ‵ (flft κ′ q′) ∷ ‵ (Lent zs) ∷ ‵ OwnL ∷ []) ∵
       suffices ! _ (ends-at 𝓤 H A hands.ended stayed (hands.clauses 𝓤 H A mem run) W
       (((κ, (κ′, tt)), (q, (q′, tt)), tt, x γ, at), tt) (mach r) (refusalForC r) (zs, (tt, tt)) (l, (tt, tt))) $
@@ -123,7 +123,7 @@ module _ {M : Type 1} (𝓤 : URA M) (H : Heap 𝓤) (A : Atoms 𝓤) (W : Given
       owned ! C.the-row (Is C.the-row) (LL.makes C.the-type C′.the-plain 𝓤 H A) (refusalForC r) _ made $ done !
     where
       made : Is C.the-row (refusalForC r) (mach r ∷ [])
-      made = LL.owes C.the-type C′.the-laws (refusalForC r) ((refl, g), tt)
+      made = LL.owes C.the-type C′.the-laws (refusalForC r) ((refl, g), ((refl, h), tt))
 
   -- ---- the call, the record lent again for the lifetime ν under the name δ
 
@@ -151,28 +151,29 @@ module _ {M : Type 1} (𝓤 : URA M) (H : Heap 𝓤) (A : Atoms 𝓤) (W : Given
       qed W ((‵ (flft κ q) ⊛ ‵ (flft κ′ q′) ⊛ ‵ ftrue)
       ∷ ‵ (owns (MutSlice (named 0) κ u8 ∷ ShrSlice (named 1) κ′ R ∷ []) (x γ) at) ∷ []) ∵
       enter ! (𝓣 .C) (𝓣 .Λ) code.function (sliceVal (b, o) m ∷ sliceVal (b′, o′) n ∷ []) _ $
-      alloc1 ! (λ l₀. alloc1 ! (λ l₁. alloc1 ! (λ l₂. alloc1 ! (λ l₃. alloc1 ! (λ l₄. alloc1 ! (λ l₅. alloc1 ! (λ l₆. alloc0 ! $ params1 ! $
-      pass1 ! (init ! 10 refl (tt, (tt, (record { fits = gm .0 }, tt)))) $
-      pass1 ! (init ! 8 refl (tt, (tt, (record { fits = gn .0 }, tt)))) $ pass0 ! $
+      alloc1 ! (λ l₀. alloc1 ! (λ l₁. alloc1 ! (λ l₂. alloc1 ! (λ l₃. alloc1 ! (λ l₄. alloc1 ! (λ l₅.
+      alloc1 ! (λ l₆. alloc1 ! (λ l₇. alloc0 ! $ params1 ! $
+      pass1 ! (init ! 12 refl (tt, (tt, (record { fits = gm .0 }, tt)))) $
+      pass1 ! (init ! 10 refl (tt, (tt, (record { fits = gn .0 }, tt)))) $ pass0 ! $
       -- what the parameters own is taken apart, and what the list owns is there twice
-      move ! (15 ∷ []) $ fsplit ! $ move ! (1 ∷ []) $ fsplit ! $
+      move ! (17 ∷ []) $ fsplit ! $ move ! (1 ∷ []) $ fsplit ! $
       use1 W (‵ OwnL ⊛ ‵ OwnL) (shr-slice-copy 𝓤 H A W (named 1) κ′ R .twice list (at .1 .0)) $ split ! $
-      move ! (18 ∷ []) $ split ! $ move ! (1 ∷ []) $ split ! $
-      -- [the list's token; true; the record's token; the list's; the list's; true; the record's; _6; …]
-      keep ! (3 ∷ 0 ∷ 6 ∷ 2 ∷ 4 ∷ 7 ∷ 8 ∷ 9 ∷ 10 ∷ 11 ∷ 12 ∷ 13 ∷ 14 ∷ 15 ∷ 16 ∷ 17 ∷ 18 ∷ 19 ∷ 20 ∷ []) $
-      -- [the list's; its token; the record's; its token; the list's; _6; …]: the record is lent again
-      assigns ! (addr ! (from ! (fld ! refl (hop ! (look-in ! 15 (sub ! 0 refl (whole !))) (stop !))))) (from ! (stop !))
-      (init ! 9 refl (tt, tt)) $
-      assigns ! (agg ! (and-then ! (load ! (from ! (stop !)) (look ! 9 refl))
-      (and-then ! (load ! (from ! (fld ! refl (stop !))) (look-in ! 15 (sub ! 1 refl (whole !)))) (no-more !)))) (from ! (stop !))
-      (init ! 7 refl (tt, (tt, (record { fits = gm .0 }, tt)))) $
+      move ! (20 ∷ []) $ split ! $ move ! (1 ∷ []) $ split ! $
+      -- [the list's token; true; the record's token; the list's; the list's; true; the record's; _7; …]
+      keep ! (3 ∷ 0 ∷ 6 ∷ 2 ∷ 4 ∷ 7 ∷ 8 ∷ 9 ∷ 10 ∷ 11 ∷ 12 ∷ 13 ∷ 14 ∷ 15 ∷ 16 ∷ 17 ∷ 18 ∷ 19 ∷ 20 ∷ 21 ∷ 22 ∷ []) $
+      -- [the list's; its token; the record's; its token; the list's; _7; …]: the record is lent again
+      assigns ! (addr ! (from ! (fld ! refl (hop ! (look-in ! 17 (sub ! 0 refl (whole !))) (stop !))))) (from ! (stop !))
+      (init ! 11 refl (tt, tt)) $
+      assigns ! (agg ! (and-then ! (load ! (from ! (stop !)) (look ! 11 refl))
+      (and-then ! (load ! (from ! (fld ! refl (stop !))) (look-in ! 17 (sub ! 1 refl (whole !)))) (no-more !)))) (from ! (stop !))
+      (init ! 9 refl (tt, (tt, (record { fits = gm .0 }, tt)))) $
       lft-new ! tt (λ ν. move ! (3 ∷ 4 ∷ []) $
       use2 W (later (some (λ (δ : GName). ‵ (Again ν δ) ⊛ ‵ (LentAgain u8 κ (ν ∷ []) q γ b o δ bs))))
       (lends-again u8 κ (ν ∷ []) q γ b o 𝓤 H A W (named 0) (named 0) bs) $ await ! tt $ pick ! (λ δ. split ! $
       move ! (2 ∷ 4 ∷ 0 ∷ 3 ∷ []) $ join ! $ use3 W (raw (Taken 𝓤 H A mem run .pre (to-call ν δ))) (asks ν δ) $
-      -- [what is asked; what waits; the list's; _6; …]
+      -- [what is asked; what waits; the list's; _7; …]
       calls-at ! (fmOf 𝓤 H (W .laws) 𝓣) (Taken 𝓤 H A mem run) known (to-call ν δ)
-      (and-then ! (load ! (from ! (stop !)) (look ! 5 refl)) (and-then ! (load ! (from ! (stop !)) (look ! 11 refl)) (no-more !))) (λ u.
+      (and-then ! (load ! (from ! (stop !)) (look ! 7 refl)) (and-then ! (load ! (from ! (stop !)) (look ! 13 refl)) (no-more !))) (λ u.
       use1 W (later (some (λ (r : Refusal). ((‵ (flft (ν ∷ []) fullShare) ⊛ ‵ (flft κ′ q′) ⊛ ‵ ftrue) ⊛ ‵ (E.the-row .own r (u ∷ [])))
       ⊛ raw (ensured 𝓤 H A taken.ended (taken.clauses 𝓤 H A mem run) (ν ∷ [], (κ′, tt)) (x δ) tt r)))) (id⊢ 𝓤 _) $
       await ! tt $ pick ! (λ r.
@@ -181,26 +182,31 @@ module _ {M : Type 1} (𝓤 : URA M) (H : Heap 𝓤) (A : Atoms 𝓤) (W : Given
       ‵ (lasts taken.ended (ν ∷ [], (κ′, tt)) (x δ) zs) ⊛ raw (fact 𝓤 (Hands bs whole-list r (zs .0))))) (id⊢ 𝓤 _) $ pick ! (λ zs.
       split ! $ move ! (1 ∷ []) $ heard ! (Hands bs whole-list r (zs .0)) (λ e. fsplit ! $ fsplit ! $ move ! (1 ∷ []) $ feqL ! (λ same.
       move ! (2 ∷ []) $ split ! $ move ! (1 ∷ []) $
-      -- [the result; the tokens; the last list; …; what waits; the list's; _6; …]
+      -- [the result; the tokens; the last list; …; what waits; the list's; _7; …]
       peeks ! E.the-row (Is E.the-row) (shows 𝓤 H A E.the-row) r (u ∷ []) (λ is.
       let g = wider (r .number) (LL.owed E.the-type E′.the-laws r _ is .0 .1) in
-      land ! (from ! (stop !)) (init ! 12 refl (LL.lawful E.the-type E′.the-laws 𝓤 H A W .typed r _ is .0)) $
-      rewrite ! 12 (λ (v : Val). ‵ (fat fullShare E′.mir l₃ 0 v)) (ap only (LL.tells E.the-type E′.the-laws r _ is)) refl $
+      let h = wider (r .row) (LL.owed E.the-type E′.the-laws r _ is .1 .0 .1) in
+      land ! (from ! (stop !)) (init ! 14 refl (LL.lawful E.the-type E′.the-laws 𝓤 H A W .typed r _ is .0)) $
+      rewrite ! 14 (λ (v : Val). ‵ (fat fullShare E′.mir l₃ 0 v)) (ap only (LL.tells E.the-type E′.the-laws r _ is)) refl $
       -- the lifetime is ended, and the record comes back at that list
       drop ! $ split ! $ lft-end ! tt $ move ! (0 ∷ 4 ∷ 2 ∷ []) $
       use3 W (later (‵ (Lent (zs .0)) ⊛ ‵ (flft κ q)))
       (comes-back u8 κ (ν ∷ []) q γ b o 𝓤 H A W (named 0) (named 0) bs δ (zs .0) gm same) $
       await ! tt $ split ! $ move ! (2 ∷ []) $ split ! $
-      -- [the list's token; true; the record's; its token; …; the list's; _6; …]
-      assigns ! (un ! (load ! (from ! (fld ! refl (stop !))) (look-in ! 12 (sub ! 0 refl (whole !)))) (record { fits = g }))
-      (from ! (stop !)) (init ! 6 refl (tt, record { fits = g })) $
-      assigns ! (agg ! (and-then ! (load ! (from ! (stop !)) (look ! 6 refl)) (no-more !))) (from ! (stop !))
-      (init ! 18 refl (tt, (record { fits = g }, tt))) $
-      returns ! (look ! 18 refl) $ forget ! 6 refl $ forget ! 8 refl $ forget ! 10 refl $ forget ! 12 refl $
-      forget ! 14 refl $ forget ! 16 refl $ forget ! 18 refl $
-      move ! (18 ∷ 19 ∷ []) $ free1 ! $ move ! (16 ∷ 17 ∷ []) $ free1 ! $ move ! (14 ∷ 15 ∷ []) $ free1 ! $
-      move ! (12 ∷ 13 ∷ []) $ free1 ! $ move ! (10 ∷ 11 ∷ []) $ free1 ! $ move ! (8 ∷ 9 ∷ []) $ free1 ! $
-      move ! (6 ∷ 7 ∷ []) $ free1 ! $ free0 ! $ keep ! (3 ∷ 0 ∷ 2 ∷ 5 ∷ []) $ by ! (exits r (zs .0) e same g))))))))))))))))
+      -- [the list's token; true; the record's; its token; …; the list's; _7; …]
+      assigns ! (un ! (load ! (from ! (fld ! refl (stop !))) (look-in ! 14 (sub ! 0 refl (whole !)))) (record { fits = g }))
+      (from ! (stop !)) (init ! 8 refl (tt, record { fits = g })) $
+      assigns ! (un ! (load ! (from ! (fld ! refl (stop !))) (look-in ! 14 (sub ! 1 refl (whole !)))) (record { fits = h }))
+      (from ! (stop !)) (init ! 6 refl (tt, record { fits = h })) $
+      assigns ! (agg ! (and-then ! (load ! (from ! (stop !)) (look ! 8 refl))
+      (and-then ! (load ! (from ! (stop !)) (look ! 6 refl)) (no-more !)))) (from ! (stop !))
+      (init ! 20 refl (tt, (record { fits = g }, (record { fits = h }, tt)))) $
+      returns ! (look ! 20 refl) $ forget ! 6 refl $ forget ! 8 refl $ forget ! 10 refl $ forget ! 12 refl $
+      forget ! 14 refl $ forget ! 16 refl $ forget ! 18 refl $ forget ! 20 refl $
+      move ! (20 ∷ 21 ∷ []) $ free1 ! $ move ! (18 ∷ 19 ∷ []) $ free1 ! $ move ! (16 ∷ 17 ∷ []) $ free1 ! $
+      move ! (14 ∷ 15 ∷ []) $ free1 ! $ move ! (12 ∷ 13 ∷ []) $ free1 ! $ move ! (10 ∷ 11 ∷ []) $ free1 ! $
+      move ! (8 ∷ 9 ∷ []) $ free1 ! $ move ! (6 ∷ 7 ∷ []) $ free1 ! $ free0 ! $
+      keep ! (3 ∷ 0 ∷ 2 ∷ 5 ∷ []) $ by ! (exits r (zs .0) e same g h)))))))))))))))))
 
 module _ {M : Type 1} (𝓤 : URA M) (H : Heap 𝓤) (A : Atoms 𝓤) (W : Given 𝓤 H A) (mem : Memory → SProp 𝓤) (run : Routine → Fun 𝓤)
     (𝓣 : Tables 𝓤 H) (known : Triple 𝓤 (𝓣 .C #taken) (Taken 𝓤 H A mem run)) where

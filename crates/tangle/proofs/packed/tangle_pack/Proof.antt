@@ -17,12 +17,15 @@ pack-requires c κs = search needs
 cast-t14 : tie.Need-cast-t14
 cast-t14 c = search needs
 
+cast-t15 : tie.Need-cast-t15
+cast-t15 c = search needs
+
 same-length : tie.Need-same-length
 same-length c = search needs
 
 returns : tie.Need-returns
 returns c =
-    let f = c .before .before .before in
+    let f = c .before .before .before .before in
     let n = f .before .before in
     record {
       given = f .pack .result;
@@ -33,4 +36,4 @@ returns c =
 pub tangle-pack-spec : {M : Type 1} → statement M
 tangle-pack-spec =
     tie.close
-    (tie.spec in-8-bits-requires in-16-bits-requires pack-requires cast-t14 same-length returns)
+    (tie.spec in-8-bits-requires in-16-bits-requires pack-requires cast-t14 cast-t15 same-length returns)

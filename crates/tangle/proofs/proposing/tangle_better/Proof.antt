@@ -20,11 +20,14 @@ cast-t8 c = search needs
 cast-t9 : tie.Need-cast-t9
 cast-t9 c = search needs
 
+cast-t10 : tie.Need-cast-t10
+cast-t10 c = search needs
+
 returns : tie.Need-returns
 returns c =
-    let f = c .before .before .before in
+    let f = c .before .before .before .before in
     record { given = f .compare .result; called = compare-wide (f .before .in-16-bits .ensures) (f .compare .ensures); answers = refl }
 
 pub tangle-better-spec : {M : Type 1} → statement M
 tangle-better-spec =
-    tie.close (tie.spec in-16-bits-requires compare-requires cast-t7 cast-t8 cast-t9 returns)
+    tie.close (tie.spec in-16-bits-requires compare-requires cast-t7 cast-t8 cast-t9 cast-t10 returns)

@@ -14,9 +14,12 @@ better-check-requires c κs = search needs
 cast-t7 : tie.Need-cast-t7
 cast-t7 c = search needs
 
+cast-t8 : tie.Need-cast-t8
+cast-t8 c = search needs
+
 returns : tie.Need-returns
 returns c =
-    let f = c .before in
+    let f = c .before .before in
     record {
       given = f .better-check .result;
       called = better-check-wide (f .before .in-16-bits .ensures) (f .better-check .ensures);
@@ -25,4 +28,4 @@ returns c =
 
 pub tangle-better-check-spec : {M : Type 1} → statement M
 tangle-better-check-spec =
-    tie.close (tie.spec in-16-bits-requires better-check-requires cast-t7 returns)
+    tie.close (tie.spec in-16-bits-requires better-check-requires cast-t7 cast-t8 returns)

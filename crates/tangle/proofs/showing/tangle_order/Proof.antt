@@ -14,14 +14,17 @@ order-requires c κs = search needs
 cast-t8 : tie.Need-cast-t8
 cast-t8 c = search needs
 
+cast-t9 : tie.Need-cast-t9
+cast-t9 c = search needs
+
 same-length : tie.Need-same-length
 same-length c = search needs
 
 returns : tie.Need-returns
 returns c =
-    let f = c .before .before .before in
+    let f = c .before .before .before .before in
     record { given = f .order .result; called = order-wide (f .before .before .in-16-bits .ensures) (f .order .ensures); answers = refl }
 
 pub tangle-order-spec : {M : Type 1} → statement M
 tangle-order-spec =
-    tie.close (tie.spec in-16-bits-requires order-requires cast-t8 same-length returns)
+    tie.close (tie.spec in-16-bits-requires order-requires cast-t8 cast-t9 same-length returns)

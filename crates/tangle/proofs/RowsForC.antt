@@ -1,0 +1,67 @@
+-- The answers for C tell their rows, since they carry the refusals that the calls themselves tell.
+use Prim.Native.Nat.{ℕ}
+use mathlib.Core.Path.{_≡_, refl, sym, ap, _∙_, subst}
+use Rattle.record_fields.specs.declared.refusal.Refusal.{Refusal}
+use Rattle.record_fields.specs.Fields.{Parts, parts}
+use Rattle.record_fields.specs.Told.{SaysRow}
+use Rattle.record_fields.proofs.Told.{tells-row, tells-row-in, refusal-own, set-hold-own}
+use Rattle.record_unpacking.proofs.Unpacked.{unpack-own}
+use Rattle.record_packing.proofs.Packed.{pack-own}
+use Rattle.calls_show.specs.declared.answers.Entangled.{Entangled}
+use Rattle.calls_show.specs.declared.answers.Entangled.the-variants.{Ratio, NoRatio, Refused}
+use Rattle.calls_show.specs.Calls.{entangledRefusal}
+use Rattle.calls_show.proofs.Outcomes.{order-own, entangled-told}
+use Rattle.calls_turns.proofs.Turns.{free-own, run-own}
+use Rattle.calls_hands.proofs.HandLists.{hands-own}
+use Rattle.calls_better.proofs.Compared.{compare-own}
+use Rattle.tangle.specs.declared.answers.TangleRefusal.{TangleRefusal}
+use Rattle.tangle.specs.ForC.{Gives, refusalForC, entanglementForC}
+use Rattle.tangle.specs.RowsForC.{RowsForC}
+
+-- an answer in a form says what the form of each answer that the call may give says
+in-form : {P : Parts} {A B : Type 0} {call : A → Type 0} {form : A → B} {answer : B} (number row : B → ℕ) →
+    ((a : A) → call a → SaysRow P (number (form a)) (row (form a))) → Gives call form answer → SaysRow P (number answer) (row answer)
+in-form {P} number row says g = subst (λ x. SaysRow P (number x) (row x)) (sym (g .answers)) (says (g .given) (g .called))
+
+-- one that is the refusal alone
+alone : {P : Parts} {call : Refusal → Type 0} {answer : TangleRefusal} → ((a : Refusal) → call a → SaysRow P (a .number) (a .row)) →
+    Gives call refusalForC answer → SaysRow P (answer .refusal) (answer .row)
+alone says g = in-form (λ x. x .refusal) (λ x. x .row) says g
+
+-- an entanglement, case by case
+entangled-form : (P : Parts) (a : Entangled) → SaysRow P (entangledRefusal a .number) (entangledRefusal a .row) →
+    SaysRow P (entanglementForC a .refusal) (entanglementForC a .row)
+entangled-form P (Ratio d w x) says = says
+entangled-form P NoRatio says = says
+entangled-form P (Refused r) says = says
+
+pub rows-for-c : RowsForC
+rows-for-c = record {
+  check = λ s answer g. alone (λ a p. tells-row s (refusal-own s refl) (p .answers)) g;
+  order = λ s side out answer out′ g. alone (λ a p. tells-row s (order-own s side out refl) (p .answers)) g;
+  count =
+      λ s answer g.
+      in-form (λ x. x .refusal) (λ x. x .row) (λ a p. tells-row s (refusal-own s refl) (ap (λ c. c .refusal) (p .answers))) g;
+  entanglement =
+      λ s answer g.
+      in-form (λ x. x .refusal) (λ x. x .row)
+      (λ a p. entangled-form (parts s) a (tells-row s (refusal-own s refl) (ap entangledRefusal (p .answers) ∙ entangled-told s))) g;
+  free =
+      λ s side answer s′ g.
+      in-form (λ x. x .refusal) (λ x. x .row) (λ a p. tells-row s (free-own s side refl) (ap (λ c. c .refusal) (p .answers))) g;
+  run =
+      λ s allowance answer s′ g.
+      in-form (λ x. x .refusal) (λ x. x .row) (λ a p. tells-row s (run-own s allowance refl) (ap (λ c. c .refusal) (p .answers))) g;
+  hands = λ s hands answer s′ g. alone (λ a p. tells-row s (hands-own s hands refl) (p .answers)) g;
+  better =
+      λ s side first second answer g.
+      in-form (λ x. x .refusal) (λ x. x .row)
+      (λ a p. tells-row s (compare-own s side first second refl) (ap (λ c. c .refusal) (p .answers))) g;
+  better-check = λ s side first second answer g. alone (λ a p. tells-row s (compare-own s side first second refl) (p .answers)) g;
+  hold = λ s letter answer s′ g. alone (λ a p. tells-row s (set-hold-own s letter refl) (p .answers)) g;
+  pack = λ P out answer out′ g. alone (λ a p. tells-row-in P (pack-own P out) (p .answers)) g;
+  unpack =
+      λ s left right links left-layout right-layout o g.
+      in-form (λ x. x .refusal) (λ x. x .row)
+      (λ a p. tells-row s (unpack-own s left right links left-layout right-layout refl) (ap (λ c. c .refusal) (p .answers))) g;
+}
