@@ -33,7 +33,8 @@ use Rattle.record_arrays.proofs.Apart.{order-taken}
 module _ (s : List ℕ) where
   -- ---- counts
 
-  pub count-refused : {k : ℕ} {told : Refusal} → told ≡ toldOf s k → k ≡ refusal s → k ≢ 0 → Counts s (record { refusal = told; count = 0 })
+  pub count-refused : {k : ℕ} {told : Refusal} → told ≡ toldOf s k → k ≡ refusal s → k ≢ 0 →
+      Counts s (record { refusal = told; count = 0 })
   count-refused {k} t e h = record { answers = rw (t, ← e, ne-eqb k 0 h) refl }
 
   pub count-accepted : {r : ℕ} {told : Refusal} → told ≡ refused 0 → refusal s ≡ 0 → r ≡ shownCount s →
@@ -102,7 +103,10 @@ module _ (s : List ℕ) (side : ℕ) (out : List ℕ) where
   order-own e = rw e (own-when s (not (isSide side)) 13 refl (own-then s (alone-when (ltb (length out) (sizeOf s)) 14 refl alone-0)))
 
   pub order-refused : {k : ℕ} {told : Refusal} → told ≡ toldOf s k → k ≡ orderRefusal s side out → k ≢ 0 → Orders s side out told out
-  order-refused {k} t e h = record { answers = t ∙ ap (toldOf s) e; afterwards = rw (← e) (lent-refused k (shownOrder s (sideOf side)) out h) }
+  order-refused {k} t e h = record {
+    answers = t ∙ ap (toldOf s) e;
+    afterwards = rw (← e) (lent-refused k (shownOrder s (sideOf side)) out h);
+  }
 
   pub order-accepted : (n : ℕ) (A found after : List ℕ) {told : Refusal} → told ≡ refused 0 → orderRefusal s side out ≡ 0 → n ≡ sizeOf s →
       A ≡ shownOrder s (sideOf side) ++ drop n found → after ≡ sets out 0 (take n A) → Orders s side out told after

@@ -1,12 +1,11 @@
 -- What an accepted entanglement says, from its statement; whole numbers up to 2^53 are 64-bit floats without loss.
 use Prim.Native.Nat.{ℕ, _^_, _≤_}
 use mathlib.Core.Path.{_≡_, refl, sym, ap, _∙_, subst}
-use mathlib.Core.Bool.{Bool, true, false, cond}
+use mathlib.Core.Bool.{Bool, true, false}
 use mathlib.Core.List.{List}
 use native.Mathlib.Omega.{arith}
 use borrow.Author.Tests.{eq-eqb, ne-eqb, eqb-true, eqb-false}
 use lib.Dec.{eqb}
-use lib.IntN.{pos}
 use lib.Ieee.{binary64, ofInt}
 use lib.Ieee.Back.{round-whole}
 use Rattle.tanglegram.specs.Entanglement.{worst}
@@ -18,9 +17,6 @@ use Rattle.record_fields.proofs.Acceptance.{accepted-sized}
 use Rattle.record_fields.proofs.Meaning.{links-perm}
 use Rattle.record_arrays.specs.Shown.{shownOrder, shownDisplacement}
 use Rattle.record_arrays.proofs.AsItStands.{over-its-leaves, side-perm}
-use Rattle.record_fields.specs.Refused.{refused}
-use Rattle.calls_show.specs.declared.answers.Entangled.{Entangled}
-use Rattle.calls_show.specs.declared.answers.Entangled.the-variants.{Ratio, NoRatio, Refused}
 use Rattle.calls_show.specs.Calls.{ratio, entangled, Entangles, entangledRefusal, displacedIn, worstIn, ratioIn}
 use Rattle.calls_show.proofs.Outcomes.{entangled-told}
 use Rattle.promises.specs.Entanglement as Entanglement
@@ -86,5 +82,7 @@ module _ (s : List ℕ) where
 
 pub entanglement : Entanglement.Entanglement
 entanglement = record {
-  keeps = λ s answer o z. subst (EntangledKeeps s) (sym (o .answers)) (keeps s (number-0 s (ap (λ a. entangledRefusal a .number) (sym (o .answers)) ∙ z)));
+  keeps = λ s answer o z.
+      let e = sym (o .answers) in
+      subst (EntangledKeeps s) e (keeps s (number-0 s (ap (λ a. entangledRefusal a .number) e ∙ z)));
 }

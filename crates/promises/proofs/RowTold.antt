@@ -8,7 +8,8 @@ use Rattle.record_fields.specs.Fields.{parts}
 use Rattle.record_fields.specs.Refusals.{refusal}
 use Rattle.record_fields.specs.Refused.{accepted}
 use Rattle.record_fields.specs.Told.{toldOf}
-use Rattle.record_fields.proofs.Told.{told-none, tells-row, tells-row-in, refusal-own, set-hold-own}
+use Rattle.record_fields.proofs.Told.{told-none, refusal-own, set-hold-own}
+use Rattle.record_fields.proofs.SaysRow.{tells-row, tells-row-in}
 use Rattle.record.specs.Calls.{readingOf, readingRefusal}
 use Rattle.record_unpacking.proofs.Unpacked.{unpack-own}
 use Rattle.record_packing.proofs.Packed.{pack-own}

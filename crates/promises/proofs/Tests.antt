@@ -6,7 +6,7 @@ use Rattle.work_tree_rule.specs.Rule.{badRow}
 use Rattle.work_tree_rule.proofs.Rule.{bad-row-none}
 use Rattle.record_fields.specs.Refusals.{breaksRule}
 use Rattle.record_fields.proofs.Meaning.{rule-kept}
-use Rattle.record_fields.proofs.Told.{broken-lowest}
+use Rattle.record_fields.proofs.SaysRow.{broken-lowest}
 use Rattle.record_fields.proofs.Tests.{one-to-one-perm, layout-small, small-layout}
 use Rattle.calls_better.proofs.Proposed.{is-order-compatible}
 use Rattle.promises.specs.Tests as Tests

@@ -1,6 +1,6 @@
--- The customer, in a first request for changes: "The tree check answers the lowest row that breaks the rule, and refusals 7 and 8 carry it
--- through every call that reads or packs one." In every outcome of every such call a number of 7 comes with a row from 1 to n - 1 that breaks
--- the tree rule while each earlier row of the left tree keeps it, 8 with one of the right tree, and any other number with row 0
+-- The customer, in the first request for changes: "The tree check answers the lowest row that breaks the rule, and refusals 7 and 8 carry
+-- it through every call that reads or packs one." In every outcome of every such call 7 comes with a row from 1 to n - 1 of the left tree
+-- that breaks the tree rule while each earlier row of that tree keeps it, 8 with one of the right tree, and any other number with row 0
 -- (`SaysRow`, in `record_fields/specs/Told`). Better of two itself answers no refusal; its check call does.
 use Prim.Native.Nat.{ℕ}
 use mathlib.Core.List.{List}
@@ -22,7 +22,7 @@ use Rattle.calls_better.specs.declared.answers.Compared.{Compared}
 use Rattle.calls_better.specs.Calls.{Compares, BetterChecks}
 use Rattle.promises.specs.Outcomes.{UnpackOutcome, UnpacksTo}
 
--- A refusal says the row of a record, and of parts.
+-- A refusal says the row of a record.
 abbrev pub Says : List ℕ → Refusal → Type 0
 Says s r = SaysRow (parts s) (r .number) (r .row)
 
@@ -33,7 +33,8 @@ pub record RowTold : Type 0 where
   pub unpack : (s left right links left-layout right-layout : List ℕ) (o : UnpackOutcome) →
       UnpacksTo s left right links left-layout right-layout o → Says s (o .answer .refusal)
   -- The rows are the lists'.
-  pub pack : (P : Parts) (out : List ℕ) (answer : Refusal) (out′ : List ℕ) → Packs P out answer out′ → SaysRow P (answer .number) (answer .row)
+  pub pack : (P : Parts) (out : List ℕ) (answer : Refusal) (out′ : List ℕ) → Packs P out answer out′ →
+      SaysRow P (answer .number) (answer .row)
   pub order : (s : List ℕ) (side : ℕ) (out : List ℕ) (answer : Refusal) (out′ : List ℕ) → Orders s side out answer out′ → Says s answer
   -- Of count and of pairs.
   pub count : (s : List ℕ) (answer : Counted) → Counts s answer → Says s (answer .refusal)

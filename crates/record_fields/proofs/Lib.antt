@@ -7,5 +7,6 @@ pub mod Contents
 pub mod Acceptance
 pub mod Refused
 pub mod Told
+pub mod SaysRow
 pub mod Meaning
 pub mod Rehold

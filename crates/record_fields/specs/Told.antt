@@ -35,8 +35,8 @@ tellsRow k = eqb k 7 || eqb k 8
 pub record OwnRow (s : List ℕ) (k : ℕ) : Type 0 where
   pub own : tellsRow k ≡ true → refusal s ≡ k
 
--- What a refusal of parts says by its number and its row: with 7 the row is the lowest of the left tree that breaks the tree rule, with 8 of
--- the right one; it is 0 with any other number.
+-- What a refusal of parts says by its number and its row: with 7 the row is the lowest of the left tree that breaks the tree rule, with 8
+-- of the right one; it is 0 with any other number.
 pub record SaysRow (P : Parts) (number row : ℕ) : Type 0 where
   pub left : number ≡ 7 → Lowest (P .size) (upper (P .left-rows)) (lower (P .left-rows)) row
   pub right : number ≡ 8 → Lowest (P .size) (upper (P .right-rows)) (lower (P .right-rows)) row

@@ -4,7 +4,8 @@ use mathlib.Core.Path.{_≡_, refl, sym, ap, _∙_, subst}
 use Rattle.record_fields.specs.declared.refusal.Refusal.{Refusal}
 use Rattle.record_fields.specs.Fields.{Parts, parts}
 use Rattle.record_fields.specs.Told.{SaysRow}
-use Rattle.record_fields.proofs.Told.{tells-row, tells-row-in, refusal-own, set-hold-own}
+use Rattle.record_fields.proofs.Told.{refusal-own, set-hold-own}
+use Rattle.record_fields.proofs.SaysRow.{tells-row, tells-row-in}
 use Rattle.record_unpacking.proofs.Unpacked.{unpack-own}
 use Rattle.record_packing.proofs.Packed.{pack-own}
 use Rattle.calls_show.specs.declared.answers.Entangled.{Entangled}

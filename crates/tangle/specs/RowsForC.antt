@@ -1,5 +1,5 @@
--- The customer, in a first request for changes: "The tree check answers the lowest row that breaks the rule, and refusals 7 and 8 carry it
--- through every call that reads or packs one." Here for the calls for C, of the refusal and the row in an answer (`SaysRow`, in
+-- The customer, in the first request for changes: "The tree check answers the lowest row that breaks the rule, and refusals 7 and 8 carry
+-- it through every call that reads or packs one." Here for the calls for C, of the refusal and the row in an answer (`SaysRow`, in
 -- `record_fields/specs/Told`).
 use Prim.Native.Nat.{ℕ}
 use mathlib.Core.List.{List}
