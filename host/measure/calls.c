@@ -1,7 +1,7 @@
 /* Peak stack of every call (tangle.h) on records of 512 leaves, by a painted stack. A line for each call and record:
  * call, left tree, right tree, layout bytes (0, 1, or 2 for mixed), bytes. The bytes include the few that the harness
- * takes to hand the arguments over. Ends with 1 if a call refuses, if an order is not the one expected, or if two calls
- * that must agree do not. */
+ * takes to hand the arguments over. Ends with 1 if a call refuses a good record or accepts one whose last row is bad,
+ * if an order is not the one expected, or if two calls that must agree do not. */
 #include <stdio.h>
 
 #include "../viewer/tangle.h"
@@ -87,8 +87,8 @@ static void unpack(void) {
 }
 
 static void pack(void) {
-    found.refusal = tangle_pack(found.unpacked.hold, found.unpacked.n, left, 2 * ROWS, right, 2 * ROWS, links, N,
-                                left_layout, ROWS, right_layout, ROWS, packed, BYTES).refusal;
+    found.refusal = tangle_pack(made[5], N, left, 2 * ROWS, right, 2 * ROWS, links, N, left_layout, ROWS, right_layout,
+                                ROWS, packed, BYTES).refusal;
 }
 
 /* Every call; those with a side once for each, with two orders of that side at hand. */
@@ -144,6 +144,9 @@ static void make(rows_t *left_rows, rows_t *right_rows, uint8_t layout) {
 
 static void restore(void) { memcpy(s, made, BYTES); }
 
+/* The stack of a call's work, which leaves its answer in `found`. */
+static size_t bytes_of(job_t *job) { return reach(restore, job) - reach(restore, no_job); }
+
 /* A side's present order, and the same backwards: two that are compatible. */
 static void propose(uint32_t side) {
     restore();
@@ -162,7 +165,8 @@ static int agree(void) {
     uint32_t crossings = found.count.count;
     return found.pairs.count == crossings && found.freed.before == crossings && found.freed.after <= crossings &&
            found.ran.first == crossings && found.ran.last <= crossings && found.ran.settled == 1 &&
-           found.entanglement.has_ratio == 1 && found.better.length == N && memcmp(packed, made, BYTES) == 0;
+           found.entanglement.has_ratio == 1 && found.better.length == N && found.unpacked.hold == made[5] &&
+           found.unpacked.n == N && memcmp(packed, made, BYTES) == 0;
 }
 
 /* A tree, and its order with every layout byte 0: 1 if that is 1 to n, -1 if it is n to 1, 0 for another. */
@@ -182,7 +186,7 @@ static int measure(size_t on_left, size_t on_right, uint8_t layout) {
         int direction = shapes[calls[i].side == TANGLE_LEFT ? on_left : on_right].direction;
         if (calls[i].side != 0) propose(calls[i].side);
         found.refusal = 1;
-        size_t bytes = reach(restore, calls[i].job) - reach(restore, no_job);
+        size_t bytes = bytes_of(calls[i].job);
         printf("%s %s %zu\n", calls[i].name, name, bytes);
         int answered = found.refusal == 0;
         if (strcmp(calls[i].name, "order") == 0 && direction != 0 && layout != 2)
@@ -194,9 +198,28 @@ static int measure(size_t on_left, size_t on_right, uint8_t layout) {
     return good && agree();
 }
 
+/* Each call on a record whose row 511 is bad on one side: its upper entry is 0. Packing's lists have it too. */
+static int measure_bad_row(uint32_t side) {
+    uint32_t expected = side == TANGLE_LEFT ? TANGLE_LEFT_ROW : TANGLE_RIGHT_ROW;
+    int good = 1;
+    make(balanced, balanced, 0);
+    (side == TANGLE_LEFT ? left : right)[2 * ROWS - 2] = 0;
+    put(side == TANGLE_LEFT ? 4 + 4 * ROWS : 4 + 8 * ROWS, 0);
+    for (size_t i = 0; i < sizeof calls / sizeof *calls; i++) {
+        size_t bytes = bytes_of(calls[i].job);
+        printf("%s %s 0 %zu\n", calls[i].name, side == TANGLE_LEFT ? "bad-row balanced" : "balanced bad-row", bytes);
+        if (found.refusal != expected) {
+            fprintf(stderr, "%s: refusal %u for a bad row\n", calls[i].name, (unsigned)found.refusal);
+            good = 0;
+        }
+    }
+    return good;
+}
+
 int main(void) {
     int good = 1;
     for (size_t i = 0; i < 16; i++)
         for (uint8_t layout = 0; layout <= 2; layout++) good &= measure(i / 4, i % 4, layout);
+    good &= measure_bad_row(TANGLE_LEFT) & measure_bad_row(TANGLE_RIGHT);
     return good ? 0 : 1;
 }
