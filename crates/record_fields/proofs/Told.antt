@@ -13,9 +13,11 @@ use Rattle.work_tree_rule.specs.Rule.{badRow}
 use Rattle.record_fields.specs.declared.refusal.Refusal.{Refusal}
 use Rattle.record_fields.specs.Fields.{two, numbers, versionAt, leftAt, holdOf, sizeOf, rightAt, lengthOf}
 use Rattle.record_fields.specs.Fields.{Parts, partsOf, parts, Sized}
-use Rattle.record_fields.specs.Refusals.{orElse, isMark, isHold, noSize, headingRefusal, contentsRefusal, refusal, setHoldRefusal}
+use Rattle.record_fields.specs.Refusals.{orElse, isMark, isHold, noSize, breaksRule, headingRefusal, contentsRefusal}
+use Rattle.record_fields.specs.Refusals.{refusal, setHoldRefusal}
 use Rattle.record_fields.specs.Refused.{refused, refusedRow}
-use Rattle.record_fields.specs.Told.{rowFor, toldIn, toldOf, tellsRow, OwnRow}
+use Rattle.record_fields.specs.Told.{rowFor, toldIn, toldOf, ToldContents, tellsRow, OwnRow}
+use Rattle.record_fields.proofs.Contents.{broken, contents-7, contents-8}
 use Rattle.record_fields.proofs.Acceptance.{refusal-contents, heading-sized}
 
 -- ---- the row, number by number
@@ -72,6 +74,29 @@ module _ (s : List ℕ) {k : ℕ} {answer : Refusal} where
 
   pub told-other : k ≢ 7 → k ≢ 8 → answer ≡ refused k → answer ≡ toldOf s k
   told-other p q r = r ∙ ap (refusedRow k) (row-none (parts s .size) (parts s .left-rows) (parts s .right-rows) p q)
+
+-- ---- from the test of parts that was met to what is told
+
+module _ (P : Parts) {answer : Refusal} where
+  pub told-7 : {row : ℕ} → row ≡ badRow (P .size) (upper (P .left-rows)) (lower (P .left-rows)) → row ≢ 0 → answer ≡ refusedRow 7 row →
+      ToldContents P answer
+  told-7 b h r = record {
+    told =
+        r ∙ ap (refusedRow 7) (b ∙ row-7 (P .size) (P .left-rows) (P .right-rows) refl)
+        ∙ ap (toldIn P) (contents-7 P (broken (P .size) (P .left-rows) b h));
+  }
+
+  pub told-8 : {row : ℕ} → breaksRule (P .size) (P .left-rows) ≡ false →
+      row ≡ badRow (P .size) (upper (P .right-rows)) (lower (P .right-rows)) → row ≢ 0 → answer ≡ refusedRow 8 row → ToldContents P answer
+  told-8 left b h r = record {
+    told =
+        r ∙ ap (refusedRow 8) (b ∙ row-8 (P .size) (P .left-rows) (P .right-rows) refl)
+        ∙ ap (toldIn P) (contents-8 P left (broken (P .size) (P .right-rows) b h));
+  }
+
+  -- 9, 10 and 0
+  pub told-number : {k : ℕ} → Alone k → k ≡ contentsRefusal P → answer ≡ refused k → ToldContents P answer
+  told-number a e r = record { told = r ∙ told-alone P a ∙ ap (toldIn P) e }
 
 -- ---- what is so of each number that a list of tests may give, and of each of two refusals, is so of the one that is given
 

@@ -10,7 +10,7 @@ use Rattle.work_trees.specs.Rows.{upper, lower}
 use Rattle.work_tree_rule.specs.Rule.{badRow, Lowest}
 use Rattle.record_fields.specs.declared.refusal.Refusal.{Refusal}
 use Rattle.record_fields.specs.Fields.{Parts, parts}
-use Rattle.record_fields.specs.Refusals.{_when_else_, refusal}
+use Rattle.record_fields.specs.Refusals.{_when_else_, contentsRefusal, refusal}
 use Rattle.record_fields.specs.Refused.{refusedRow}
 
 -- The row that is told with the number k, of left and right rows over n leaves; 0 for none.
@@ -27,6 +27,10 @@ toldIn P k = refusedRow k (rowFor (P .size) (P .left-rows) (P .right-rows) k)
 
 abbrev pub toldOf : List ℕ → ℕ → Refusal
 toldOf s k = toldIn (parts s) k
+
+-- The answer is the refusal of the content of parts.
+pub record ToldContents (P : Parts) (answer : Refusal) : Type 0 where
+  pub told : answer ≡ toldIn P (contentsRefusal P)
 
 -- A row is told with 7 and 8; with them k is the record's own refusal, and no other test's.
 abbrev pub tellsRow : ℕ → Bool

@@ -14,9 +14,9 @@ use Rattle.record_fields.specs.Letters.{letterT, letterG, letterP}
 use Rattle.record_fields.specs.Fields.{versionAt, holdAt, sizeAt}
 use Rattle.record_fields.specs.Fields.{split, rightAt, linksAt, leftLayoutAt, rightLayoutAt, lengthOf, Parts, given, opening, packed}
 use Rattle.record_fields.specs.Refusals.{_when_else_, isHold, noSize, contentsRefusal}
-use Rattle.record_fields.specs.Told.{tellsRow, toldIn}
-use Rattle.record_fields.proofs.Told.{Alone, told-alone, told-none, alone-when, alone-0, each-else}
+use Rattle.record_fields.specs.Told.{toldIn, ToldContents, tellsRow}
 use Rattle.record_fields.specs.Refused.{refused}
+use Rattle.record_fields.proofs.Told.{Alone, told-alone, told-none, alone-when, alone-0, each-else}
 use Rattle.record_fields.proofs.Heading.{sized, unsized, none-first, not-no}
 use Rattle.work_trees.proofs.Stores.{sets-append}
 use Rattle.record_fields.proofs.Stores.{sets-front, length-split}
@@ -133,7 +133,7 @@ module _ (P : Parts) (out : List ℕ) where
   unfolding packRefusal
   packing-shape h = sym (else-first (partsShapeRefusal P) _ h)
 
-  pub packing-contents : partsShapeRefusal P ≡ 0 → contentsRefusal P ≢ 0 → contentsRefusal P ≡ packRefusal P out
+  packing-contents : partsShapeRefusal P ≡ 0 → contentsRefusal P ≢ 0 → contentsRefusal P ≡ packRefusal P out
   unfolding packRefusal
   packing-contents s h = sym (else-second (partsShapeRefusal P) _ s ∙ else-first (contentsRefusal P) _ h)
 
@@ -163,8 +163,14 @@ module _ (P : Parts) (out : List ℕ) where
       (each-else Q (contentsRefusal P) (λ t. refl)
       (none (14 when ltb (length out) (lengthOf (P .size)) else 0) (alone-when (ltb (length out) (lengthOf (P .size))) 14 refl alone-0)))
 
-  pub pack-refused : {k : ℕ} {answer : Refusal} → k ≡ packRefusal P out → k ≢ 0 → answer ≡ toldIn P k → Packs P out answer out
+  pack-refused : {k : ℕ} {answer : Refusal} → k ≡ packRefusal P out → k ≢ 0 → answer ≡ toldIn P k → Packs P out answer out
   pack-refused {k} e h r = record { answers = r ∙ ap (toldIn P) e; afterwards = rw (← e) (lent-refused k (packed P) out h) }
+
+  -- by the content
+  pub pack-contents : {answer : Refusal} → partsShapeRefusal P ≡ 0 → ToldContents P answer → answer .number ≢ 0 → Packs P out answer out
+  pack-contents s t h =
+      let some : contentsRefusal P ≢ 0 = λ z. h (ap (λ a. a .number) (t .told) ∙ z) in
+      pack-refused (packing-contents s some) some (t .told)
 
   -- a refusal without a row; the shape's is one
   pub pack-alone : {k : ℕ} {answer : Refusal} → k ≡ packRefusal P out → k ≢ 0 → Alone k → answer ≡ refused k → Packs P out answer out

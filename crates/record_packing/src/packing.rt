@@ -1,15 +1,13 @@
 // Packing: parts, as numbers and lists, into a buffer.
 ghost use mathlib.Core.Path.{_≡_};
-ghost use Prim.Native.Nat.{ℕ, _-_, _*_, _≤_};
+ghost use Prim.Native.Nat.{ℕ, _≤_};
 ghost use lib.ListN.{length};
 ghost use lib.Seq.{sets};
 ghost use Rattle.record_packing.specs.Calls.{Packs};
 ghost use Rattle.record_packing.specs.Refusals.{shapeRefusal};
 ghost use Rattle.record_packing.specs.Shapes.{Shaped};
-ghost use Rattle.record_fields.specs.Fields.{given, lengthOf, mostLeaves, opening, packed};
-ghost use Rattle.record_fields.specs.Refusals.{contentsRefusal};
-ghost use Rattle.record_fields.specs.Refused.{refusedRow};
-ghost use Rattle.record_fields.specs.Told.{rowFor};
+ghost use Rattle.record_fields.specs.Fields.{given, lengthOf, opening, packed};
+ghost use Rattle.record_fields.specs.Told.{ToldContents};
 use record::heading::is_hold;
 use record::heading::no_size;
 use record_contents::bad_row_in;
@@ -78,20 +76,20 @@ fn shape_number(
     0
 }
 
-// 7 to 10 for lists of the right lengths, or 0; the hold plays no part.
-fn lists_number(
+// The refusal of lists of the right lengths: 7 or 8 with the lowest bad row, 9 or 10, or none; the hold plays no part.
+// The tests of the rows have the row at hand.
+fn lists_refusal(
     n: u16,
     left: &[u16],
     right: &[u16],
     links: &[u16],
     leftlayout: &[u8],
     rightlayout: &[u8],
-) -> u16
+) -> Refusal
     requires { ⌜ Shaped n (now left) (now right) (now links) (now leftlayout) (now rightlayout) ⌝ }
     ensures { λ r. ⌜
         ((h : ℕ) →
-        r ≡
-        contentsRefusal
+        ToldContents
         (given
         h
         n
@@ -99,41 +97,28 @@ fn lists_number(
         (now (right .entry))
         (now (links .entry))
         (now (leftlayout .entry))
-        (now (rightlayout .entry))))
+        (now (rightlayout .entry)))
+        r)
         ⌝ }
 {
-    if bad_row_in(left, n) != 0 {
-        return LEFT_ROW;
+    let badleft = bad_row_in(left, n);
+    let badright = bad_row_in(right, n);
+    if badleft != 0 {
+        return refused_row(LEFT_ROW, badleft);
     }
-    if bad_row_in(right, n) != 0 {
-        return RIGHT_ROW;
+    if badright != 0 {
+        return refused_row(RIGHT_ROW, badright);
     }
     if !one_to_one_in(links, n) {
-        return LINKS;
+        return refused(LINKS);
     }
     if !is_layout(leftlayout) {
-        return LAYOUT;
+        return refused(LAYOUT);
     }
     if !is_layout(rightlayout) {
-        return LAYOUT;
+        return refused(LAYOUT);
     }
-    0
-}
-
-// The refusal with a number of lists of the right lengths: 7 with the lowest row of left that breaks the tree rule, 8
-// with that of right.
-fn told_of_lists(n: u16, left: &[u16], right: &[u16], number: u16) -> Refusal
-    requires { ⌜ (1 ≤ n) × (n ≤ mostLeaves) ⌝ }
-    requires { ⌜ (length (now left) ≡ 2 * (n - 1)) × (length (now right) ≡ 2 * (n - 1)) ⌝ }
-    ensures { λ r. ⌜ r ≡ refusedRow number (rowFor n (now (left .entry)) (now (right .entry)) number) ⌝ }
-{
-    if number == LEFT_ROW {
-        return refused_row(number, bad_row_in(left, n));
-    }
-    if number == RIGHT_ROW {
-        return refused_row(number, bad_row_in(right, n));
-    }
-    refused(number)
+    refused(0)
 }
 
 // Writes bytes 0 to 7: the mark, version 1, the hold and n.
@@ -225,9 +210,9 @@ pub fn pack(
     if k != 0 {
         return refused(k);
     }
-    let l = lists_number(n, left, right, links, leftlayout, rightlayout);
-    if l != 0 {
-        return told_of_lists(n, left, right, l);
+    let refusal = lists_refusal(n, left, right, links, leftlayout, rightlayout);
+    if refusal.number != 0 {
+        return refusal;
     }
     if out.len() < length_of(n) {
         return refused(ROOM);

@@ -1,9 +1,8 @@
 -- `pack` answers the first refusal, or writes the record.
-use mathlib.Core.Path.{refl, sym, _∙_}
+use mathlib.Core.Path.{refl, sym, ap, _∙_}
 use native.Mathlib.Omega.{arith}
-use Rattle.record_fields.specs.Fields.{given}
-use Rattle.record_packing.proofs.Packed.{shape-some, shape-good, packing-contents}
-use Rattle.record_packing.proofs.Packed.{packing-14, packing-0, pack-refused, pack-alone, pack-shape}
+use Rattle.record_packing.proofs.Packed.{shape-some, shape-good}
+use Rattle.record_packing.proofs.Packed.{packing-14, packing-0, pack-contents, pack-alone, pack-shape}
 use Rattle.record_packing.proofs.Packed.{pack-accepted}
 use borrow.Author.Needs.{needs}
 use Rattle.record_packing.proofs.packing.pack.Statement.{statement}
@@ -20,30 +19,21 @@ returns c =
     let p = c .before in
     pack-shape _ _ (p .before .shape-number .ensures) (p .if1 .taken) (c .refused .ensures)
 
-lists-number-requires : tie.Need-lists-number-requires
-lists-number-requires c κs =
+lists-refusal-requires : tie.Need-lists-refusal-requires
+lists-refusal-requires c κs =
     shape-good _ (sym (c .before .shape-number .ensures) ∙ c .if1 .left) .1
-
-told-of-lists-requires : tie.Need-told-of-lists-requires
-told-of-lists-requires c κs =
-    let p = c .before .before in
-    let a = p .before .before .before .before .before .before .before .before .args in
-    let P = given (a .hold) (a .n) (a .left .now) (a .right .now) (a .links .now) (a .leftlayout .now) (a .rightlayout .now) in
-    let g = shape-good P (sym (p .before .shape-number .ensures) ∙ p .if1 .left) .1 in
-    ((g .some, g .most), (g .left-long, g .right-long))
 
 returns-2 : tie.Need-returns-2
 returns-2 c =
-    let q = c .before in
-    let p = q .before .before in
+    let q = c .before .before in
+    let p = q .before in
     let a = p .before .before .before .before .before .before .before .before .args in
-    let e = q .before .lists-number .ensures (a .hold) in
     let s = sym (p .before .shape-number .ensures) ∙ p .if1 .left in
-    pack-refused _ _ (e ∙ packing-contents _ _ s (λ z. q .if2 .taken (e ∙ z))) (q .if2 .taken) (c .told-of-lists .ensures)
+    pack-contents _ _ s (q .lists-refusal .ensures (a .hold)) (c .if2 .taken)
 
 length-of-requires : tie.Need-length-of-requires
 length-of-requires c κs =
-    let p = c .before .before in
+    let p = c .before .before .before in
     shape-some _ _ _ _ _ _ _ (sym (p .before .shape-number .ensures) ∙ p .if1 .left)
 
 refused-requires-2 : tie.Need-refused-requires-2
@@ -53,10 +43,10 @@ returns-3 : tie.Need-returns-3
 returns-3 c =
     let r = c .before in
     let q = r .before .before in
-    let p = q .before .before in
+    let p = q .before .before .before in
     let a = p .before .before .before .before .before .before .before .before .args in
     let s = sym (p .before .shape-number .ensures) ∙ p .if1 .left in
-    let l = sym (q .before .lists-number .ensures (a .hold)) ∙ q .if2 .left in
+    let l = sym (ap (λ x. x .number) (q .before .before .lists-refusal .ensures (a .hold) .told)) ∙ q .if2 .left in
     let n = r .before .length-of .ensures in
     pack-alone _ _ (packing-14 _ _ s l (rw n at (r .if3 .taken))) (omega arith) (record { alone = refl }) (c .refused2 .ensures)
 
@@ -64,7 +54,7 @@ write-record-requires : tie.Need-write-record-requires
 write-record-requires c κs =
     let r = c .before in
     let q = r .before .before in
-    let p = q .before .before in
+    let p = q .before .before .before in
     let n = r .before .length-of .ensures in
     (shape-good _ (sym (p .before .shape-number .ensures) ∙ p .if1 .left) .1, rw n at (r .if3 .left))
 
@@ -79,10 +69,10 @@ returns-4 c =
     let w = c .before .before .before in
     let r = w .before .before in
     let q = r .before .before in
-    let p = q .before .before in
+    let p = q .before .before .before in
     let a = p .before .before .before .before .before .before .before .before .args in
     let s = sym (p .before .shape-number .ensures) ∙ p .if1 .left in
-    let l = sym (q .before .lists-number .ensures (a .hold)) ∙ q .if2 .left in
+    let l = sym (ap (λ x. x .number) (q .before .before .lists-refusal .ensures (a .hold) .told)) ∙ q .if2 .left in
     let n = r .before .length-of .ensures in
     pack-accepted _ _ (packing-0 _ _ s l (rw n at (r .if3 .left))) (c .refused3 .ensures) (w .write-record .ensures)
 
@@ -93,8 +83,7 @@ pack-spec =
     shape-number-requires
     refused-requires
     returns
-    lists-number-requires
-    told-of-lists-requires
+    lists-refusal-requires
     returns-2
     length-of-requires
     refused-requires-2
