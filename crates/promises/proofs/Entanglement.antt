@@ -17,7 +17,7 @@ use Rattle.record_fields.proofs.Acceptance.{accepted-sized}
 use Rattle.record_fields.proofs.Meaning.{links-perm}
 use Rattle.record_arrays.specs.Shown.{shownOrder, shownDisplacement}
 use Rattle.record_arrays.proofs.AsItStands.{over-its-leaves, side-perm}
-use Rattle.calls_show.specs.Calls.{ratio, entangled, Entangles, entangledRefusal, displacedIn, worstIn, ratioIn}
+use Rattle.calls_show.specs.Calls.{ratio, entangled, entangledRefusal}
 use Rattle.calls_show.proofs.Outcomes.{entangled-told}
 use Rattle.promises.specs.Entanglement as Entanglement
 use Rattle.promises.specs.Entanglement.{Exact, EntangledKeeps}

@@ -1,5 +1,5 @@
--- A refusal as a value, and what a call that is refused answers and keeps: every other number is 0, the row of 7
--- and 8 apart (`Told`), and what was lent is as found.
+-- A refusal as a value, and what a call that is refused answers and keeps: every other number is 0, and what was lent is as found. Which
+-- row comes with a number is `Told`.
 use Prim.Native.Nat.{ℕ}
 use mathlib.Core.Bool.{Bool, cond}
 use mathlib.Core.List.{List, _++_}

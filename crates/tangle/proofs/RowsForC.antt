@@ -1,6 +1,6 @@
 -- The answers for C tell their rows, since they carry the refusals that the calls themselves tell.
 use Prim.Native.Nat.{ℕ}
-use mathlib.Core.Path.{_≡_, refl, sym, ap, _∙_, subst}
+use mathlib.Core.Path.{refl, sym, ap, _∙_, subst}
 use Rattle.record_fields.specs.declared.refusal.Refusal.{Refusal}
 use Rattle.record_fields.specs.Fields.{Parts, parts}
 use Rattle.record_fields.specs.Told.{SaysRow}

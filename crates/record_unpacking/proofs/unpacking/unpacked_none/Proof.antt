@@ -1,6 +1,5 @@
 -- `unpacked_none` answers the refusal, and 0 for the hold and n.
 use mathlib.Core.Path.{refl}
-use borrow.Author.Needs.{needs}
 use Rattle.record_unpacking.proofs.unpacking.unpacked_none.Statement.{statement}
 use Rattle.record_unpacking.proofs.unpacking.unpacked_none.Tie as tie
 
