@@ -1,8 +1,8 @@
 -- What the refusal that is told says: with 7 and 8 the row is the lowest that breaks the tree rule, and with any other number it is 0.
 use Prim.Native.Nat.{ℕ, zero, suc, _≤_}
-use mathlib.Core.Path.{_≡_, refl, sym, ap, _∙_, subst}
+use mathlib.Core.Path.{_≡_, refl, sym, _∙_, subst}
 use mathlib.Core.Logic.{_≢_, _⊎_, inl, inr, ⊎-elim}
-use mathlib.Core.Bool.{Bool, true, false, cond, not, true≢false, false≢true}
+use mathlib.Core.Bool.{Bool, true, false, cond, not, true≢false}
 use mathlib.Core.List.{List}
 use native.Mathlib.Omega.{arith}
 use borrow.Author.Tests.{eqb-true, eqb-false}
@@ -14,7 +14,7 @@ use Rattle.record_fields.specs.declared.refusal.Refusal.{Refusal}
 use Rattle.record_fields.specs.Fields.{Parts, parts}
 use Rattle.record_fields.specs.Refusals.{_when_else_, breaksRule, oneToOne, isLayout, contentsRefusal}
 use Rattle.record_fields.specs.Told.{rowFor, toldIn, toldOf, tellsRow, OwnRow, SaysRow}
-use Rattle.record_fields.proofs.Told.{row-7, row-8, row-none, each-when, own-contents}
+use Rattle.record_fields.proofs.Told.{row-7, row-8, row-none, differs, each-when, own-contents}
 
 -- ---- the tests of the tree rule
 
@@ -50,7 +50,7 @@ module _ (P : Parts) where
 
   links-or-layouts : (m : ℕ) → tellsRow m ≡ true → given-later ≢ m
   links-or-layouts m t =
-      let other : (j : ℕ) → tellsRow j ≡ false → j ≢ m = λ j f e. false≢true (sym f ∙ ap tellsRow e ∙ t) in
+      let other : (j : ℕ) → tellsRow j ≡ false → j ≢ m = λ j f. differs (record { alone = f }) t in
       neither (not (oneToOne (P .size) (P .links))) 9 (other 9 refl)
       (neither (not (isLayout (P .left-layout))) 10 (other 10 refl)
       (neither (not (isLayout (P .right-layout))) 10 (other 10 refl) (other 0 refl)))

@@ -39,13 +39,12 @@ module _ (n : ℕ) (left right : List ℕ) {k : ℕ} where
 pub record Alone (k : ℕ) : Type 0 where
   pub alone : tellsRow k ≡ false
 
+-- it is none that a row is told with
+pub differs : {k j : ℕ} → Alone k → tellsRow j ≡ true → k ≢ j
+differs a t e = false≢true (sym (a .alone) ∙ ap tellsRow e ∙ t)
+
 pub told-alone : (P : Parts) {k : ℕ} → Alone k → refused k ≡ toldIn P k
-told-alone P {k} a =
-    ap (refusedRow k)
-    (row-none (P .size) (P .left-rows) (P .right-rows) (λ e. differs 7 e (a .alone) refl) (λ e. differs 8 e (a .alone) refl))
-  where
-    differs : (j : ℕ) → k ≡ j → tellsRow k ≡ false → tellsRow j ≡ true → ⊥
-    differs j e f t = false≢true (sym f ∙ ap tellsRow e ∙ t)
+told-alone P {k} a = ap (refusedRow k) (row-none (P .size) (P .left-rows) (P .right-rows) (differs a refl) (differs a refl))
 
 pub told-none : (P : Parts) {k : ℕ} → k ≡ 0 → refused 0 ≡ toldIn P k
 told-none P e = rw e (told-alone P (record { alone = refl }))
@@ -133,7 +132,7 @@ module _ (s : List ℕ) where
       where
         go : (h : ℕ) → Alone h → orElse h (contentsRefusal (parts s)) ≡ k → h ≡ 0
         go zero a e = refl
-        go (suc h) a e = absurd (false≢true (sym (a .alone) ∙ ap tellsRow e ∙ t))
+        go (suc h) a e = absurd (differs a t e)
 
     pub own-sized : Sized s (sizeOf s)
     own-sized = heading-sized s own-heading
@@ -146,7 +145,7 @@ module _ (s : List ℕ) where
   refusal-own e = record { own = λ t. sym e }
 
   pub alone-own : {k : ℕ} → Alone k → OwnRow s k
-  alone-own a = record { own = λ t. absurd (false≢true (sym (a .alone) ∙ t)) }
+  alone-own a = record { own = λ t. absurd (differs a t refl) }
 
   pub own-when : (b : Bool) (j : ℕ) {r : ℕ} → tellsRow j ≡ false → OwnRow s r → OwnRow s (cond b j r)
   own-when b j e is = each-when (OwnRow s) b (alone-own (record { alone = e })) is

@@ -32,10 +32,11 @@ toldOf s k = toldIn (parts s) k
 pub record ToldContents (P : Parts) (answer : Refusal) : Type 0 where
   pub told : answer ≡ toldIn P (contentsRefusal P)
 
--- A row is told with 7 and 8; with them k is the record's own refusal, and no other test's.
+-- The numbers that a row is told with.
 abbrev pub tellsRow : ℕ → Bool
 tellsRow k = eqb k 7 || eqb k 8
 
+-- If k is one of them, it is the record's own refusal, and not another test's.
 pub record OwnRow (s : List ℕ) (k : ℕ) : Type 0 where
   pub own : tellsRow k ≡ true → refusal s ≡ k
 

@@ -1,5 +1,5 @@
 // Refusals: what a call answers when it is refused, and the refusals' numbers (docs/CALLS.md), each with its name.
-// Every refusal is made here; `record::told` says which row goes with a number.
+// Every refusal is made here; `record::told`, and `lists_refusal` in packing, say which row goes with a number.
 ghost use mathlib.Core.Path.{_≡_};
 ghost use Rattle.record_fields.specs.Refused.{refused, refusedRow};
 

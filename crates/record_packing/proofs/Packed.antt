@@ -2,7 +2,7 @@
 use Prim.Native.Nat.{ℕ, _+_, _-_, _*_, _≤_, _<_}
 use mathlib.Core.Path.{_≡_, refl, sym, ap, _∙_, subst}
 use mathlib.Core.Logic.{_≢_}
-use mathlib.Core.Bool.{true, not, false≢true}
+use mathlib.Core.Bool.{true, not}
 use mathlib.Core.List.{List, [], _∷_, _++_}
 use native.Mathlib.Omega.{arith}
 use borrow.Author.Tests.{lt-ltb, le-ltb, eq-eqb, eqb-true, ltb-false}
@@ -16,7 +16,7 @@ use Rattle.record_fields.specs.Fields.{split, rightAt, linksAt, leftLayoutAt, r
 use Rattle.record_fields.specs.Refusals.{_when_else_, isHold, noSize, contentsRefusal}
 use Rattle.record_fields.specs.Told.{toldIn, ToldContents, tellsRow}
 use Rattle.record_fields.specs.Refused.{refused}
-use Rattle.record_fields.proofs.Told.{Alone, told-alone, told-none, alone-when, alone-0, each-else}
+use Rattle.record_fields.proofs.Told.{Alone, differs, told-alone, told-none, alone-when, alone-0, each-else}
 use Rattle.record_fields.proofs.Heading.{sized, unsized, none-first, not-no}
 use Rattle.work_trees.proofs.Stores.{sets-append}
 use Rattle.record_fields.proofs.Stores.{sets-front, length-split}
@@ -158,7 +158,7 @@ module _ (P : Parts) (out : List ℕ) where
   unfolding packRefusal
   pack-own =
       let Q : ℕ → Type 0 = λ k. tellsRow k ≡ true → contentsRefusal P ≡ k in
-      let none : (k : ℕ) → Alone k → Q k = λ k a t. absurd (false≢true (sym (a .alone) ∙ t)) in
+      let none : (k : ℕ) → Alone k → Q k = λ k a t. absurd (differs a t refl) in
       each-else Q (partsShapeRefusal P) (none (partsShapeRefusal P) (parts-shape-alone P))
       (each-else Q (contentsRefusal P) (λ t. refl)
       (none (14 when ltb (length out) (lengthOf (P .size)) else 0) (alone-when (ltb (length out) (lengthOf (P .size))) 14 refl alone-0)))

@@ -7,10 +7,10 @@ use record::reading::Header;
 use record::reading::Reading;
 use record_fields::fields::MOST_TURNS;
 use record_fields::refusal::Refusal;
-use record_fields::refusal::refused as no_refusal;
+use record_fields::refusal::refused;
 
 // `REFUSED`, a refusal's number, and the bad row of 7 and 8.
-fn refused(refusal: Refusal) {
+fn refused_line(refusal: Refusal) {
     printing::text(b"REFUSED ");
     printing::refusal(refusal.number, refusal.row);
     printing::end();
@@ -87,7 +87,7 @@ fn turns(ran: Ran) {
 // The refusal that a reading found, with number 0 where it found none.
 fn refusal_in(reading: Reading) -> Refusal {
     match reading {
-        Reading::Accepted(_header) => no_refusal(0),
+        Reading::Accepted(_header) => refused(0),
         Reading::Refused(refusal) => refusal,
     }
 }
@@ -96,7 +96,7 @@ fn refusal_in(reading: Reading) -> Refusal {
 fn sheet(s: &mut [u8]) {
     let reading = record::read(s);
     let Reading::Accepted(header) = reading else {
-        return refused(refusal_in(reading));
+        return refused_line(refusal_in(reading));
     };
     let n = header.n;
     heading(header);
@@ -105,7 +105,7 @@ fn sheet(s: &mut [u8]) {
     let ran = calls_turns::run(s, MOST_TURNS);
     let refusal = ran.refusal;
     if refusal.number != 0 {
-        return refused(refusal);
+        return refused_line(refusal);
     }
     turns(ran);
     orders(s, n);
