@@ -1,0 +1,5 @@
+pub mod Sentence
+pub mod Grammar
+pub mod Reading
+pub mod Rows
+pub mod Writing
