@@ -1,0 +1,5 @@
+pub mod Text
+pub mod DigitLaws
+pub mod LengthLaws
+pub mod OnceLaws
+pub mod RowsOut

@@ -1,0 +1,4 @@
+pub mod Text
+pub mod Notes
+pub mod Reads
+pub mod Once

@@ -1,0 +1,51 @@
+// Whether the leaves that were noted are each from 1 to n, and none twice.
+ghost use mathlib.Core.Path.{_≡_};
+ghost use mathlib.Core.Bool.{true, cond, not};
+ghost use mathlib.Core.List.{[], _∷_, _++_};
+ghost use Prim.Native.Nat.{ℕ, _-_, _*_, _≤_, _<_};
+ghost use lib.Dec.{leb};
+ghost use lib.ListN.{length, take, replicate};
+ghost use Rattle.work_newick_reading.specs.Notes.{lastIn};
+ghost use Rattle.work_newick_reading.specs.Once.{refusedLeaf, fresh, Marked, MarkedMore};
+
+// Whether an entry is no leaf, or can be one more leaf of 1 to n, which is marked then.
+fn mark_leaf(marks: &mut [u8; 512], x: u16, n: u16) -> bool
+    requires { ⌜ (length (now marks) ≡ 512) × (n ≤ 512) ⌝ }
+    ensures { λ r. ⌜ MarkedMore (now (marks .entry)) x n r (now (marks .exit)) ⌝ }
+{
+    if 1024 <= x {
+        return true;
+    }
+    if x == 0 {
+        return false;
+    }
+    if n < x {
+        return false;
+    }
+    let k = x as usize - 1;
+    if marks[k] != 0 {
+        return false;
+    }
+    marks[k] = 1;
+    true
+}
+
+// Whether the leaves among the rows over n leaves, and the object that was read last, are each from 1 to n and none
+// stands twice.
+pub fn leaves_once(notes: &[u16; 1025], n: u16) -> bool
+    requires { ⌜ (length (now notes) ≡ 1025) × (1 ≤ n) × (n ≤ 512) ⌝ }
+    ensures { λ r. ⌜
+        r ≡ fresh n [] (take (2 * (n - 1)) (now (notes .entry)) ++ (lastIn (now (notes .entry)) ∷ []))
+        ⌝ }
+{
+    let mut marks = [0u8; 512];
+    let m = 2 * (n as usize - 1);
+    let mut i = 0;
+    while i < m {
+        if !mark_leaf(&mut marks, notes[i], n) {
+            return false;
+        }
+        i += 1;
+    }
+    mark_leaf(&mut marks, notes[1023], n)
+}
