@@ -17,7 +17,7 @@ use Rattle.tanglegram.proofs.Lists.{each-split, each-perm, pairwise-split, perm
 use Rattle.tanglegram.proofs.ListSums.{range-append, range-last}
 use Rattle.tanglegram.proofs.Tree.{object-leaf, object-fork}
 use Rattle.work_trees.specs.Rows.{upper, lower}
-use Rattle.newick.specs.Sentence.{Sentence, number, group, groups, value, leafNumbers, leafCount}
+use Rattle.newick.specs.Sentence.{Length, Sentence, number, group, groups, value, leafNumbers, leafCount}
 use Rattle.newick.specs.Rows.{leafObjects, objectFrom, rowsFrom, rowsOf, treeFrom}
 
 -- ---- how many
@@ -116,16 +116,23 @@ rows-at v n k (group a b l) T before after e h =
 
 -- ---- the tree rule
 
+-- a sentence's leaf numbers are among 1 to n
+abbrev Among : ℕ → Sentence → Type 0
+Among n s = Each (λ a. (1 ≤ a) × (a ≤ n)) (leafNumbers s)
+
+among-split : (n : ℕ) (a b : Sentence) (l : Length) → Among n (group a b l) → Among n a × Among n b
+unfolding leafNumbers
+among-split n a b l p = each-split (λ x. (1 ≤ x) × (x ≤ n)) (leafNumbers a) (leafNumbers b) p
+
 -- a sentence's object is a leaf, or the last of its groups' objects
-object-within : (n k : ℕ) (s : Sentence) → Each (λ a. (1 ≤ a) × (a ≤ n)) (leafNumbers s) →
+object-within : (n k : ℕ) (s : Sentence) → Among n s →
     (1 ≤ objectFrom value n k s) × (objectFrom value n k s ≤ n + (k + groups s))
 unfolding groups objectFrom leafNumbers
 object-within n k (number ds l) p = (p .0 .0, omega (arith, p .0 .1))
 object-within n k (group a b l) p = (omega arith, omega arith)
 
 -- the object of a whole sentence is the last
-object-whole : (s : Sentence) → Each (λ a. (1 ≤ a) × (a ≤ leafCount s)) (leafNumbers s) →
-    objectFrom value (leafCount s) 0 s ≡ leafCount s + pred (leafCount s)
+object-whole : (s : Sentence) → Among (leafCount s) s → objectFrom value (leafCount s) 0 s ≡ leafCount s + pred (leafCount s)
 unfolding objectFrom leafNumbers
 object-whole (number ds l) p = omega (arith, p .0)
 object-whole (group a b l) p = omega (arith, groups-leaves (group a b l))
@@ -134,12 +141,12 @@ object-whole (group a b l) p = omega (arith, groups-leaves (group a b l))
 abbrev Within : List ℕ → ℕ → ℕ → Type 0
 Within T n i = (1 ≤ upper T i) × (upper T i < n + i) × (1 ≤ lower T i) × (lower T i < n + i)
 
-row-within : (T : List ℕ) (n k : ℕ) (s : Sentence) → RowsAt T value n k s → Each (λ a. (1 ≤ a) × (a ≤ n)) (leafNumbers s) →
+row-within : (T : List ℕ) (n k : ℕ) (s : Sentence) → RowsAt T value n k s → Among n s →
     (i : ℕ) → k < i → i ≤ k + groups s → Within T n i
-unfolding groups leafNumbers
+unfolding groups
 row-within T n k (number ds l) at p i h m = absurd (omega arith)
 row-within T n k (group a b l) at p i h m =
-    let r = each-split (λ a. (1 ≤ a) × (a ≤ n)) (leafNumbers a) (leafNumbers b) p in
+    let r = among-split n a b l p in
     let u = object-within n k a (r .0) in
     let w = object-within n (k + groups a) b (r .1) in
     let own : Within T n (k + groups (group a b l)) =
@@ -177,10 +184,10 @@ order-text lay z k (group a b l) =
 -- ---- a sentence of the leaf numbers 1 to n, each once
 
 module _ (s : Sentence) (once : List·Permᴰ (leafNumbers s) (range 1 (leafCount s))) where
-  numbers-within : Each (λ a. (1 ≤ a) × (a ≤ leafCount s)) (leafNumbers s)
-  numbers-within =
-      let Among : ℕ → Type 0 = λ a. (1 ≤ a) × (a ≤ leafCount s) in
-      each-perm Among (Permᴰ·symm once) (range-each Among 1 (leafCount s) (λ i p q. (p, omega arith)))
+  numbers-among : Among (leafCount s) s
+  numbers-among =
+      let P : ℕ → Type 0 = λ a. (1 ≤ a) × (a ≤ leafCount s) in
+      each-perm P (Permᴰ·symm once) (range-each P 1 (leafCount s) (λ i p q. (p, omega arith)))
 
   rows-stand : RowsAt (rowsOf s) value (leafCount s) 0 s
   unfolding rowsOf
@@ -204,7 +211,7 @@ module _ (s : Sentence) (once : List·Permᴰ (leafNumbers s) (range 1 (leafCoun
   unfolding rowsOf
   rows-rule i p q =
       let T = rowsOf s in
-      let w = row-within T (leafCount s) 0 s rows-stand numbers-within i p (omega (arith, groups-leaves s)) in
+      let w = row-within T (leafCount s) 0 s rows-stand numbers-among i p (omega (arith, groups-leaves s)) in
       let long = length-rows value (leafCount s) 0 s in
       let apart : (x y : ℕ) → x < 2 * i → y < 2 * i → x ≢ y → getD T x 0 ≢ getD T y 0 =
       λ x y a b. at-apart T rows-distinct x y (omega (arith, groups-leaves s)) (omega (arith, groups-leaves s)) in
@@ -224,12 +231,12 @@ module _ (s : Sentence) (once : List·Permᴰ (leafNumbers s) (range 1 (leafCoun
       }
 
   -- the object of a part of the sentence, behind k closed groups
-  object-tree : (k : ℕ) (a : Sentence) → RowsAt (rowsOf s) value (leafCount s) k a → Each (λ x. (1 ≤ x) × (x ≤ leafCount s)) (leafNumbers a) →
+  object-tree : (k : ℕ) (a : Sentence) → RowsAt (rowsOf s) value (leafCount s) k a → Among (leafCount s) a →
       k + groups a < leafCount s → object (upper (rowsOf s)) (lower (rowsOf s)) (leafCount s) (objectFrom value (leafCount s) k a) ≡ treeFrom k a
-  unfolding groups objectFrom treeFrom leafNumbers
+  unfolding groups objectFrom leafNumbers treeFrom
   object-tree k (number ds l) at p h = object-leaf (leafCount s) (upper (rowsOf s)) (lower (rowsOf s)) rows-rule (value ds) (p .0 .1)
   object-tree k (group a b l) at p h =
-      let r = each-split (λ x. (1 ≤ x) × (x ≤ leafCount s)) (leafNumbers a) (leafNumbers b) p in
+      let r = among-split (leafCount s) a b l p in
       let i = k + suc (groups a + groups b) in
       object-fork (leafCount s) (upper (rowsOf s)) (lower (rowsOf s)) rows-rule i (omega arith) h
       ∙ rw (at .0, at .1)
@@ -237,8 +244,8 @@ module _ (s : Sentence) (once : List·Permᴰ (leafNumbers s) (range 1 (leafCoun
 
   pub rows-tree : tree (upper (rowsOf s)) (lower (rowsOf s)) (leafCount s) ≡ treeFrom 0 s
   rows-tree =
-      ap (object (upper (rowsOf s)) (lower (rowsOf s)) (leafCount s)) (sym (object-whole s numbers-within))
-      ∙ object-tree 0 s rows-stand numbers-within (omega (arith, groups-leaves s))
+      ap (object (upper (rowsOf s)) (lower (rowsOf s)) (leafCount s)) (sym (object-whole s numbers-among))
+      ∙ object-tree 0 s rows-stand numbers-among (omega (arith, groups-leaves s))
 
   pub rows-order : (lay : List ℕ) → ((i : ℕ) → byte lay i ≡ 0) →
       order lay (tree (upper (rowsOf s)) (lower (rowsOf s)) (leafCount s)) ≡ leafNumbers s
