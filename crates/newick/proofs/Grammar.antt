@@ -48,24 +48,15 @@ digits-each (x ∷ xs) = go (isDigit x) refl (digits-each xs)
     go false e r = tt
 
 -- digits before what is no digit are read off
-module _ (rest : List ℕ) (end : isDigit (head rest) ≡ false) where
-  digits-before : (ds : List ℕ) → Each Digit ds → digits (ds ++ rest) ≡ ds
-  unfolding digits
-  digits-before [] p = none-first rest end
-    where
-      none-first : (xs : List ℕ) → isDigit (head xs) ≡ false → digits xs ≡ []
-      none-first [] e = refl
-      none-first (x ∷ xs) e = rw e refl
-  digits-before (d ∷ ds) p = rw (true-digit d (p .0)) (ap (λ r. d ∷ r) (digits-before ds (p .1)))
-
-  past-before : (ds : List ℕ) → Each Digit ds → pastDigits (ds ++ rest) ≡ rest
-  unfolding pastDigits
-  past-before [] p = none-first rest end
-    where
-      none-first : (xs : List ℕ) → isDigit (head xs) ≡ false → pastDigits xs ≡ xs
-      none-first [] e = refl
-      none-first (x ∷ xs) e = rw e refl
-  past-before (d ∷ ds) p = rw (true-digit d (p .0)) (past-before ds (p .1))
+digits-before : (ds rest : List ℕ) → Each Digit ds → isDigit (head rest) ≡ false →
+    (digits (ds ++ rest) ≡ ds) × (pastDigits (ds ++ rest) ≡ rest)
+unfolding digits pastDigits
+digits-before [] [] p e = (refl, refl)
+digits-before [] (x ∷ rest) p e = (rw e refl, rw e refl)
+digits-before (d ∷ ds) rest p e =
+    let r = digits-before ds rest (p .1) e in
+    let here = true-digit d (p .0) in
+    (rw here (ap (λ l. d ∷ l) (r .0)), rw here (r .1))
 
 -- a byte that stands first
 first-is : (b : ℕ) (xs : List ℕ) → b ≤ 255 → eqb (head xs) b ≡ true → xs ≡ b ∷ behind xs
@@ -134,22 +125,12 @@ length-read-back : (l : Length) (rest : List ℕ) → GoodLength l → Ends rest
 unfolding lengthIn lengthBehind spellLength isDigit
 length-read-back none rest g end = rw (end .no-colon) refl
 length-read-back (whole ds) rest g end =
-    rw (
-      digits-before rest (end .no-digit) ds (g .0),
-      past-before rest (end .no-digit) ds (g .0),
-      end .no-point,
-      ne-eqb (length ds) 0 (λ e. omega arith),
-    ) refl
+    let r = digits-before ds rest (g .0) (end .no-digit) in
+    rw (r .0, r .1, end .no-point, ne-eqb (length ds) 0 (λ e. omega arith)) refl
 length-read-back (pointed ds es) rest g end =
-    let after = point ∷ (es ++ rest) in
-    rw (
-      append-assoc ds (point ∷ es) rest,
-      digits-before after refl ds (g .0),
-      past-before after refl ds (g .0),
-      digits-before rest (end .no-digit) es (g .1),
-      past-before rest (end .no-digit) es (g .1),
-      ne-eqb (length ds + length es) 0 (λ e. omega arith),
-    ) refl
+    let r = digits-before ds (point ∷ (es ++ rest)) (g .0) refl in
+    let q = digits-before es rest (g .1) (end .no-digit) in
+    rw (append-assoc ds (point ∷ es) rest, r .0, r .1, q .0, q .1, ne-eqb (length ds + length es) 0 (λ e. omega arith)) refl
 
 -- ---- a sentence
 
@@ -262,14 +243,13 @@ leaf-read-back : (ds : List ℕ) (l : Length) (rest : List ℕ) → Good (number
 unfolding leafIn spell
 leaf-read-back ds l rest g end =
     let after = spellLength l ++ rest in
-    let no-more = length-begins l rest end in
-    let first = head-append ds after (g .1) in
+    let r = digits-before ds after (g .0) (length-begins l rest end) in
     rw (
       append-assoc ds (spellLength l) rest,
-      digits-before after no-more ds (g .0),
-      past-before after no-more ds (g .0),
+      r .0,
+      r .1,
       ne-eqb (length ds) 0 (λ e. omega (arith, g .1)),
-      first,
+      head-append ds after (g .1),
       ne-eqb (getD ds 0 0) 48 (g .2),
       length-read-back l rest (g .3) end,
     ) refl

@@ -4,3 +4,4 @@ pub mod Reading
 pub mod Rows
 pub mod Noted
 pub mod Writing
+pub mod Same
