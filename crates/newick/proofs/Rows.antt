@@ -11,7 +11,7 @@ use native.Mathlib.Omega.{arith}
 use lib.ListN.{length, getD, length-append}
 use lib.Seq.{append-snoc, getD-at}
 use Rattle.tanglegram.specs.Lists.{Each, Distinct, range, place}
-use Rattle.tanglegram.specs.Tree.{fork, used, object, tree, Rule}
+use Rattle.tanglegram.specs.Tree.{fork, leaves, used, object, tree, Rule}
 use Rattle.tanglegram.specs.Order.{byte, order}
 use Rattle.tanglegram.proofs.Lists.{each-split, each-perm, pairwise-split, perm-append, append-nil, range-each, all-distinct, place-at}
 use Rattle.tanglegram.proofs.ListSums.{range-append, range-last}
@@ -172,7 +172,12 @@ used-each P up low (suc m) f =
     let r = f (suc m) (omega arith) (omega arith) in
     (r .0, (r .1, used-each P up low m (λ j p q. f j p (omega arith))))
 
--- ---- the order
+-- ---- the leaves of a sentence's tree
+
+pub tree-leaves : (k : ℕ) (s : Sentence) → leaves (treeFrom k s) ≡ leafNumbers s
+unfolding leaves treeFrom leafNumbers
+tree-leaves k (number ds l) = refl
+tree-leaves k (group a b l) = ap₂ _++_ (tree-leaves k a) (tree-leaves (k + groups a) b)
 
 -- a layout that turns no row leaves the leaves in the order of the text
 pub order-text : (lay : List ℕ) → ((i : ℕ) → byte lay i ≡ 0) → (k : ℕ) (s : Sentence) → order lay (treeFrom k s) ≡ leafNumbers s

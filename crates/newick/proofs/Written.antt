@@ -23,7 +23,7 @@ use Rattle.newick.specs.Grammar.{Digit, Good, Spells}
 use Rattle.newick.specs.Rows.{treeFrom}
 use Rattle.newick.specs.Writing.{decimal, sentenceOf, textOf, textLength}
 use Rattle.newick.specs.Same.{SetsIn, SameSets}
-use Rattle.newick.proofs.Rows.{groups-leaves}
+use Rattle.newick.proofs.Rows.{groups-leaves, tree-leaves}
 
 -- a tree whose leaf numbers can be written
 abbrev pub Writable : Tree → Type 0
@@ -123,11 +123,6 @@ written-again lay lay′ k t p z =
     sentence-true (λ s. (j : ℕ) → sentenceOf lay′ (treeFrom j s) ≡ s) lay
     (λ a b x y j. rw (z (j + suc (groups a + groups b))) (ap₂ (λ c d. group c d none) (x j) (y (j + groups a))))
     t (each-map (leaves t) (λ a q j. ap (λ x. number (decimal x) none) (decimal-value a (q .1))) p) k
-
-tree-leaves : (k : ℕ) (s : Sentence) → leaves (treeFrom k s) ≡ leafNumbers s
-unfolding leaves treeFrom leafNumbers
-tree-leaves k (number ds l) = refl
-tree-leaves k (group a b l) = ap₂ _++_ (tree-leaves k a) (tree-leaves (k + groups a) b)
 
 leaves-again : (lay : List ℕ) (k : ℕ) (t : Tree) → Writable t → List·Permᴰ (leaves t) (leaves (treeFrom k (sentenceOf lay t)))
 leaves-again lay k t p = rw (tree-leaves k (sentenceOf lay t) ∙ written-leaves lay t p) (Permᴰ·symm (order-perm lay t))
