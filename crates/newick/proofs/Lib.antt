@@ -1,0 +1,4 @@
+pub mod Grammar
+pub mod Rows
+pub mod Noted
+pub mod Written

@@ -2,5 +2,6 @@ pub mod Sentence
 pub mod Grammar
 pub mod Reading
 pub mod Rows
-pub mod Writing
 pub mod Noted
+pub mod Writing
+pub mod Same

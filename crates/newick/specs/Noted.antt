@@ -1,26 +1,26 @@
--- What is noted of a sentence while it is read, when it is not known yet how many leaves there are: the group that closes as number i is
--- object 1023 + i, above every leaf; and a leaf number above 512, which no tree has, is 0.
+-- The rows as they are noted while a text is read, before the number of leaves is known: the group that closes as number i is noted as
+-- object 1023 + i, so that every entry below 1024 is a leaf, and a number above 512 as 0, which is no leaf.
 use Prim.Native.Nat.{ℕ, _+_, _-_}
 use mathlib.Core.Bool.{cond}
-use mathlib.Core.List.{List, [], _∷_, _++_}
+use mathlib.Core.List.{List, [], _∷_}
 use lib.Dec.{leb, ltb}
-use Rattle.newick.specs.Sentence.{Sentence, number, group, valueFrom, value}
+use Rattle.newick.specs.Sentence.{Sentence, valueFrom, value}
+use Rattle.newick.specs.Rows.{leafObjects}
 
+-- The object that a leaf is noted as; those of a sentence's leaves, in the order of the text.
 unfoldable pub noted : List ℕ → ℕ
 unfolding valueFrom
 noted ds = cond (leb (value ds) 512) (value ds) 0
 
--- The leaf numbers in the order of the text, as they are noted.
 unfoldable pub notedLeaves : Sentence → List ℕ
-unfolding noted
-notedLeaves (number ds l) = noted ds ∷ []
-notedLeaves (group a b l) = notedLeaves a ++ notedLeaves b
+unfolding noted leafObjects
+notedLeaves s = leafObjects noted s
 
--- The leaves among entries that were noted.
+-- A noted entry once there are n leaves.
+unfoldable pub fixed : ℕ → ℕ → ℕ
+fixed n e = cond (ltb e 1024) e (n + (e - 1023))
+
+-- The leaves among noted entries, in order.
 unfoldable pub leavesIn : List ℕ → List ℕ
 leavesIn [] = []
-leavesIn (x ∷ xs) = let more = leavesIn xs in cond (ltb x 1024) (x ∷ more) more
-
--- An entry as it is over n leaves.
-unfoldable pub fixed : ℕ → ℕ → ℕ
-fixed n x = cond (ltb x 1024) x (n + (x - 1023))
+leavesIn (e ∷ es) = let more = leavesIn es in cond (ltb e 1024) (e ∷ more) more

@@ -2,7 +2,13 @@
 -- i is row i, and makes object n + i. Rows are flat, upper then lower; a group's first sentence is its upper child.
 use Prim.Native.Nat.{ℕ, _+_}
 use mathlib.Core.List.{List, [], _∷_, _++_}
+use Rattle.tanglegram.specs.Tree.{Tree, leaf, fork}
 use Rattle.newick.specs.Sentence.{Sentence, number, group, groups, valueFrom, value, leafNumbers, leafCount}
+
+-- The objects that the leaves are, in the order of the text, where a leaf with the digits ds is object v ds.
+unfoldable pub leafObjects : (List ℕ → ℕ) → Sentence → List ℕ
+leafObjects v (number ds l) = v ds ∷ []
+leafObjects v (group a b l) = leafObjects v a ++ leafObjects v b
 
 -- Over n leaves, where a leaf with the digits ds is object v ds.
 module _ (v : List ℕ → ℕ) (n : ℕ) where
@@ -23,3 +29,9 @@ module _ (v : List ℕ → ℕ) (n : ℕ) where
 unfoldable pub rowsOf : Sentence → List ℕ
 unfolding valueFrom leafNumbers rowsFrom
 rowsOf s = rowsFrom value (leafCount s) 0 s
+
+-- The tree that a sentence is, if k groups have closed before it begins.
+unfoldable pub treeFrom : ℕ → Sentence → Tree
+unfolding groups valueFrom
+treeFrom k (number ds l) = leaf (value ds)
+treeFrom k (group a b l) = fork (k + groups (group a b l)) (treeFrom k a) (treeFrom (k + groups a) b)
