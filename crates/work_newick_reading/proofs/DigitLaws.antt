@@ -36,11 +36,11 @@ digit-range x h = go (leb 48 x) refl (leb x 57) refl h
 
 -- ---- a text that begins with a digit, and one that does not
 
-digits-more : (x : ℕ) (xs : List ℕ) → isDigit x ≡ true → (digits (x ∷ xs) ≡ x ∷ digits xs) × (pastDigits (x ∷ xs) ≡ pastDigits xs)
+pub digits-more : (x : ℕ) (xs : List ℕ) → isDigit x ≡ true → (digits (x ∷ xs) ≡ x ∷ digits xs) × (pastDigits (x ∷ xs) ≡ pastDigits xs)
 unfolding digits pastDigits
 digits-more x xs h = (rw h refl, rw h refl)
 
-digits-none : (x : ℕ) (xs : List ℕ) → isDigit x ≡ false → (digits (x ∷ xs) ≡ []) × (pastDigits (x ∷ xs) ≡ x ∷ xs)
+pub digits-none : (x : ℕ) (xs : List ℕ) → isDigit x ≡ false → (digits (x ∷ xs) ≡ []) × (pastDigits (x ∷ xs) ≡ x ∷ xs)
 unfolding digits pastDigits
 digits-none x xs h = (rw h refl, rw h refl)
 

@@ -26,7 +26,7 @@ digits-split (x ∷ xs) = go (isDigit x) (digits-split xs)
 
 module _ (text : List ℕ) where
   -- as many as there are places up to their end
-  digits-long : (at end leaf : ℕ) → DigitsEnd text at end leaf → at + length (digits (drop at text)) ≡ end
+  pub digits-long : (at end leaf : ℕ) → DigitsEnd text at end leaf → at + length (digits (drop at text)) ≡ end
   digits-long at end leaf d =
       let e = d .ends in
       let s = digits-split (drop at text) in

@@ -3,3 +3,6 @@ pub mod DigitLaws
 pub mod LengthLaws
 pub mod OnceLaws
 pub mod RowsOut
+pub mod NotesLaws
+pub mod ReaderLaws
+pub mod GroupLaws

@@ -1,12 +1,12 @@
 -- Rows written to a buffer entry by entry, each as it is over n leaves.
-use Prim.Native.Nat.{ℕ, zero, suc, _+_, _≤_, _<_}
+use Prim.Native.Nat.{ℕ, _+_, _<_}
 use mathlib.Core.Path.{_≡_, refl, sym, ap, _∙_}
 use mathlib.Core.List.{List, [], _∷_, _++_, map}
 use native.Mathlib.Nat.{zero-add}
 use native.Mathlib.Numerals.{add-one}
 use native.Mathlib.Omega.{arith}
 use lib.ListN.{length, getD, set, take, length-map}
-use lib.Seq.{sets, take-suc, length-take-le, length-sets}
+use lib.Seq.{sets, take-suc, length-take-le}
 use Rattle.work_trees.proofs.Stores.{sets-append}
 use Rattle.newick.specs.Noted.{fixed}
 
@@ -18,9 +18,6 @@ module _ (T : List ℕ) (n : ℕ) (found : List ℕ) where
   -- the first i entries are written
   abbrev pub written : ℕ → List ℕ
   written i = sets found 0 (map (fixed n) (take i T))
-
-  pub written-long : (out : List ℕ) (i : ℕ) → out ≡ written i → length out ≡ length found
-  written-long out i e = ap length e ∙ length-sets found 0 (map (fixed n) (take i T))
 
   pub written-more : (out : List ℕ) (i : ℕ) → i < length T → out ≡ written i → set out i (fixed n (getD T i 0)) ≡ written (i + 1)
   written-more out i h e =

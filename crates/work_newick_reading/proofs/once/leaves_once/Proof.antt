@@ -1,6 +1,5 @@
 -- `leaves_once`: entry after entry, and the object that was read last.
-use Prim.Native.Nat.{_≤_, _-_, _*_}
-use mathlib.Core.Path.{sym, ap, _∙_}
+use Prim.Native.Nat.{_-_, _*_}
 use native.Mathlib.Omega.{arith}
 use borrow.Author.Tests.{not-true, not-false}
 use Rattle.work_newick_reading.proofs.OnceLaws.{OnceTo, once-start, once-more, once-refused, once-last}
@@ -33,7 +32,13 @@ mark-leaf-requires : tie.Need-mark-leaf-requires Inv-loop μ-loop
 mark-leaf-requires c κs = search needs
 
 returns : tie.Need-returns Inv-loop μ-loop
-returns c = search needs
+returns c =
+    let l = c .before .before .before .before in
+    let s = l .before .before in
+    let T = s .args .notes .now in
+    let p = s .pre in
+    once-refused T (s .args .n) (2 * (s .args .n - 1)) (p .2) (omega arith) _ _ (l .before .loop .inv) _ (l .loop-test .taken)
+    (rw (not-true (c .before .mark-leaf .result) (c .if1 .taken)) at (c .before .mark-leaf .ensures))
 
 add-i : tie.Need-add-i Inv-loop μ-loop
 add-i c = search needs
@@ -42,7 +47,13 @@ loop-less : tie.Need-loop-less Inv-loop μ-loop
 loop-less c = search needs
 
 loop-again : tie.Need-loop-again Inv-loop μ-loop
-loop-again c = search needs
+loop-again c =
+    let l = c .before .before .before .before in
+    let s = l .before .before in
+    let T = s .args .notes .now in
+    let p = s .pre in
+    once-more T (s .args .n) (2 * (s .args .n - 1)) (p .2) (omega arith) _ _ (l .before .loop .inv) _ (l .loop-test .taken)
+    (rw (not-false (c .before .mark-leaf .result) (c .if1 .left)) at (c .before .mark-leaf .ensures))
 
 element-copy-out-mark-leaf-2 : tie.Need-element-copy-out-mark-leaf-2 Inv-loop μ-loop
 element-copy-out-mark-leaf-2 c = search needs
@@ -51,7 +62,13 @@ mark-leaf-requires-2 : tie.Need-mark-leaf-requires-2 Inv-loop μ-loop
 mark-leaf-requires-2 c κs = search needs
 
 returns-2 : tie.Need-returns-2 Inv-loop μ-loop
-returns-2 c = search needs
+returns-2 c =
+    let l = c .before .before .before in
+    let s = l .before .before in
+    let T = s .args .notes .now in
+    let p = s .pre in
+    once-last T (s .args .n) (2 * (s .args .n - 1)) (p .2) (omega arith) _ _ (l .before .loop .inv) _ (l .loop-test .left) _
+    (c .mark-leaf2 .ensures)
 
 pub leaves-once-spec : {M : Type 1} → statement M
 leaves-once-spec =

@@ -1,40 +1,54 @@
+-- `leaf`: no digit from 1 to 9; or digits, which are noted, and the length behind them.
+use mathlib.Core.Path.{refl}
+use native.Mathlib.Omega.{arith}
+use Rattle.work_newick_reading.specs.Text.{textIn}
+use Rattle.work_newick_reading.proofs.ReaderLaws.{leaf-low, leaf-high, digits-further, leaf-read}
 use borrow.Author.Needs.{needs}
 use Rattle.work_newick_reading.proofs.readers.leaf.Statement.{statement}
 use Rattle.work_newick_reading.proofs.readers.leaf.Tie as tie
-use Rattle.work_newick_reading.proofs.readers.leaf.Reads as reads
-use Rattle.work_newick_reading.proofs.readers.leaf.Lts as lts
-use Rattle.work_newick_reading.proofs.digits.byte_at.Reads as byte-at-reads
-use Rattle.work_newick_reading.proofs.digits.digits_from.Reads as digits-from-reads
-use Rattle.work_newick_reading.proofs.digits.length_end.Reads as length-end-reads
-use Rattle.work_newick_reading.proofs.notes.note_leaf.Reads as note-leaf-reads
 
--- src/readers.rt:31:9
 byte-at-requires : tie.Need-byte-at-requires
 byte-at-requires c κs = search needs
 
--- src/readers.rt:33:9
 returns : tie.Need-returns
-returns c = ?
+returns c =
+    let s = c .before .before in
+    let text = textIn (s .args .text .now) in
+    rw (leaf-low text (s .args .at) (rw (c .before .byte-at .ensures) at (c .if1 .taken))) refl
 
--- src/readers.rt:36:9
 returns-2 : tie.Need-returns-2
-returns-2 c = ?
+returns-2 c =
+    let s = c .before .before .before in
+    let text = textIn (s .args .text .now) in
+    rw (leaf-high text (s .args .at) (rw (c .before .before .byte-at .ensures) at (c .if2 .taken))) refl
 
--- src/readers.rt:38:9
 digits-from-requires : tie.Need-digits-from-requires
 digits-from-requires c κs = search needs
 
--- src/readers.rt:39:5
 note-leaf-requires : tie.Need-note-leaf-requires
 note-leaf-requires c κs = search needs
 
--- src/readers.rt:40:5
 length-end-requires : tie.Need-length-end-requires
-length-end-requires c κs = ?
+length-end-requires c κs =
+    let d = c .before .before in
+    let e = d .before in
+    let s = e .before .before .before in
+    let text = textIn (s .args .text .now) in
+    let b = e .before .before .byte-at .ensures in
+    let f = digits-further text (s .args .at) (rw b at (e .before .if1 .left)) (rw b at (e .if2 .left)) _ _ (d .digits-from .ensures) in
+    (omega arith, record { within = d .digits-from .ensures .ends .within; in-memory = s .pre .0 .in-memory })
 
--- src/readers.rt:19:1
 returns-3 : tie.Need-returns-3
-returns-3 c = ?
+returns-3 c =
+    let n = c .before in
+    let d = n .before .before in
+    let e = d .before in
+    let s = e .before .before .before in
+    let text = textIn (s .args .text .now) in
+    let b = e .before .before .byte-at .ensures in
+    let read = leaf-read text (s .args .at) (rw b at (e .before .if1 .left)) (rw b at (e .if2 .left)) (s .args .notes .now) (s .pre .1)
+    (d .digits-from .result .end) (d .digits-from .result .leaf) (c .length-end .result) (d .digits-from .ensures) (c .length-end .ensures) in
+    rw (n .note-leaf .ensures) read
 
 pub leaf-spec : {M : Type 1} → statement M
 leaf-spec =
