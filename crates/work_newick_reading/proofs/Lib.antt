@@ -6,3 +6,4 @@ pub mod RowsOut
 pub mod NotesLaws
 pub mod ReaderLaws
 pub mod GroupLaws
+pub mod WholeLaws

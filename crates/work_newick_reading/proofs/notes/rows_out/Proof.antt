@@ -50,10 +50,12 @@ loop-again c =
     let s = l .before .before .before in
     let i = l .before .loop .i in
     let v = l .before .loop .inv in
-    let below : i < length (s .args .notes .now) = omega (arith, l .loop-test .taken, s .pre .1) in
-    (omega arith, simp length-set (v .1),
-    ap (set (l .before .loop .out) i) (c .fixed-entry .ensures)
-    ∙ written-more (s .args .notes .now) (s .args .n) (s .args .out .now) (l .before .loop .out) i below (v .2))
+    let below : i < length (s .args .notes .now) = omega (arith, l .loop-test .taken, s .pre .1) in (
+      omega arith,
+      simp length-set (v .1),
+      ap (set (l .before .loop .out) i) (c .fixed-entry .ensures)
+          ∙ written-more (s .args .notes .now) (s .args .n) (s .args .out .now) (l .before .loop .out) i below (v .2),
+    )
 
 same-length : tie.Need-same-length Inv-loop μ-loop
 same-length c = search needs
