@@ -1,0 +1,5 @@
+pub mod Decimal
+pub mod Written
+pub mod Counted
+pub mod Marks
+pub mod LaidOut

@@ -1,0 +1,18 @@
+-- `digits_of` meets its contract: a number below 10 has one digit, one below 100 two, and any other is written with three.
+use mathlib.Core.Path.{sym, ap}
+use lib.ListN.{length}
+use Rattle.work_newick_writing.proofs.Decimal.{decimal-one, decimal-two, decimal-three}
+use Rattle.work_newick_writing.proofs.counting.digits_of.Statement.{statement}
+use Rattle.work_newick_writing.proofs.counting.digits_of.Tie as tie
+
+returns : tie.Need-returns
+returns c = sym (ap length (decimal-one (c .before .args .a) (c .if1 .taken)))
+
+returns-2 : tie.Need-returns-2
+returns-2 c = sym (ap length (decimal-two (c .before .before .args .a) (c .before .if1 .left) (c .if2 .taken)))
+
+returns-3 : tie.Need-returns-3
+returns-3 c = sym (ap length (decimal-three (c .before .before .args .a) (c .if2 .left)))
+
+pub digits-of-spec : {M : Type 1} → statement M
+digits-of-spec = tie.close (tie.spec returns returns-2 returns-3)
