@@ -14,15 +14,17 @@ use Rattle.work_newick_writing.proofs.Written.{grouped}
 sets-cons : (x : ℕ) (xs out : List ℕ) (at : ℕ) → sets out at (x ∷ xs) ≡ sets (set out at x) (at + 1) xs
 sets-cons x xs out at = ap (λ i. sets (set out at x) i xs) (sym (add-one at))
 
+-- the marks of a group at place `at`, with room for `first` bytes before the comma and `second` behind it
+abbrev pub marked : List ℕ → ℕ → ℕ → ℕ → List ℕ
+marked out at first second =
+    set (set (set out at opening) (at + 1 + first) comma) (at + 1 + first + 1 + second) closing
+
 module _ (a b out : List ℕ) (at : ℕ) where
   -- where the comma stands
-  abbrev pub mid : ℕ
+  abbrev mid : ℕ
   mid = at + 1 + length a
 
-  abbrev pub marked : List ℕ
-  marked = set (set (set out at opening) mid comma) (mid + 1 + length b) closing
-
-  -- one after the other
+  -- all bytes one after the other
   in-turn : sets out at (grouped a b)
       ≡ set (sets (set (sets (set out at opening) (at + 1) a) mid comma) (mid + 1) b) (mid + 1 + length b) closing
   in-turn =
@@ -33,9 +35,9 @@ module _ (a b out : List ℕ) (at : ℕ) where
       ∙ sets-cons comma (b ++ (closing ∷ [])) (sets opened (at + 1) a) mid
       ∙ sets-append b (closing ∷ []) half (mid + 1)
 
-  -- the first text and then the second
-  pub marked-first : sets (sets marked (at + 1) a) (mid + 1) b ≡ sets out at (grouped a b)
-  marked-first =
+  -- the marks, the first text, the second
+  pub first-then-second : sets (sets (marked out at (length a) (length b)) (at + 1) a) (at + 1 + length a + 1) b ≡ sets out at (grouped a b)
+  first-then-second =
       let opened = set out at opening in
       let end = mid + 1 + length b in
       rw (
@@ -44,6 +46,7 @@ module _ (a b out : List ℕ) (at : ℕ) where
         ← sets-comm b (closing ∷ []) (set (sets opened (at + 1) a) mid comma) (mid + 1) end (omega arith),
       ) (sym in-turn)
 
-  -- the second and then the first
-  pub marked-second : sets (sets marked (mid + 1) b) (at + 1) a ≡ sets out at (grouped a b)
-  marked-second = sym (sets-comm a b marked (at + 1) (mid + 1) (omega arith)) ∙ marked-first
+  -- the marks, the second text, the first
+  pub second-then-first : sets (sets (marked out at (length a) (length b)) (at + 1 + length a + 1) b) (at + 1) a ≡ sets out at (grouped a b)
+  second-then-first =
+      sym (sets-comm a b (marked out at (length a) (length b)) (at + 1) (mid + 1) (omega arith)) ∙ first-then-second

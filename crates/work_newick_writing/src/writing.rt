@@ -43,7 +43,7 @@ fn write_leaf(a: u16, out: &mut [u8], at: usize)
 // written, then the shorter child's text; what is left is the other child's, which is next.
 fn walk(rows: &[u16; 1023], bytes: &[u16; 512], top: u16, out: &mut [u8], from: usize)
     requires { ⌜ GoodRows (now rows) × TextCounts (now rows) (now bytes) ⌝ }
-    requires { ⌜ (1 ≤ top) × (top < 2 * size (now rows)) ⌝ }
+    requires { ⌜ top < 2 * size (now rows) ⌝ }
     requires { ⌜ from + length (written (objectOf (now rows) top)) ≤ length (now out) ⌝ }
     ensures { λ _. ⌜ now (out .exit) ≡ sets (now (out .entry)) from (written (objectOf (now (rows .entry)) top)) ⌝ }
 {
