@@ -1,20 +1,19 @@
 -- How many bytes the text of the object that each row makes has, noted row by row: those of its two children's texts, and three.
 use Prim.Native.Nat.{ℕ, pred, _+_, _-_, _*_, _≤_, _<_}
 use mathlib.Core.Path.{_≡_, sym, ap, _∙_}
-use mathlib.Core.List.{List, [], _∷_}
+use mathlib.Core.List.{List, []}
 use native.Mathlib.Decide.{decLe, ℕ-discrete}
 use native.Mathlib.Numerals.{sub-one}
 use native.Mathlib.Omega.{arith}
 use borrow.Author.Tests.{le-leb, lt-leb}
-use lib.ListN.{length, getD, set, length-append, length-set}
+use lib.ListN.{length, getD, set, length-set}
 use lib.Seq.{getD-set-same, getD-set-other}
-use Rattle.newick.specs.Sentence.{semicolon}
 use Rattle.newick.specs.Writing.{sentenceOf, textOf}
 use Rattle.work_trees.specs.Rows.{upper, lower, size, objectOf, treeOf, GoodRows}
 use Rattle.work_trees.proofs.LeafCounts.{first-below, second-below}
 use Rattle.work_trees.proofs.RowArray.{upper-place, lower-place}
 use Rattle.work_newick_writing.specs.Counts.{written, TextCounts, bytesOf}
-use Rattle.work_newick_writing.proofs.Written.{length-grouped, leaf-written, row-written, row-most, tree-written}
+use Rattle.work_newick_writing.proofs.Written.{length-grouped, leaf-written, row-written, row-most, length-tree}
 
 -- how many bytes an object's text has
 abbrev pub long : List ℕ → ℕ → ℕ
@@ -89,5 +88,4 @@ module _ (T : List ℕ) (good : GoodRows T) where
       bytesOf bytes (size T) (2 * size T - 1) + 1 ≡ length (textOf (sentenceOf [] (treeOf T)))
   tree-counted bytes c =
       let some = good .some in
-      let k = 2 * size T - 1 in
-      rw (tree-written T good, count-is bytes c k (omega arith)) (sym (length-append (written (objectOf T k)) (semicolon ∷ [])))
+      omega (arith, count-is bytes c (2 * size T - 1) (omega arith), length-tree T good)

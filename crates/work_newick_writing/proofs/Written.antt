@@ -5,7 +5,8 @@ use mathlib.Core.Path.{_≡_, refl, sym, ap, _∙_}
 use mathlib.Core.List.{List, [], _∷_, _++_}
 use native.Mathlib.Numerals.{sub-one}
 use native.Mathlib.Omega.{arith}
-use lib.ListN.{length, length-append}
+use lib.ListN.{length, set, length-append}
+use lib.Seq.{sets}
 use Rattle.tanglegram.specs.Tree.{Tree, leaf, fork, leaves}
 use Rattle.tanglegram.proofs.Lists.{append-nil}
 use Rattle.tanglegram.proofs.Tree.{object-leaf, object-fork}
@@ -13,6 +14,7 @@ use Rattle.newick.specs.Sentence.{spellLength, spell, opening, closing, comma, 
 use Rattle.newick.specs.Writing.{decimal, sentenceOf, textOf}
 use Rattle.work_trees.specs.Rows.{upper, lower, size, objectOf, treeOf, GoodRows}
 use Rattle.work_trees.proofs.ByNumber.{children-within}
+use Rattle.work_trees.proofs.Stores.{sets-append}
 use Rattle.work_trees.proofs.Walked.{upperOf, lowerOf, last-object}
 use Rattle.work_newick_writing.specs.Counts.{written}
 use Rattle.work_newick_writing.proofs.Decimal.{decimal-most}
@@ -73,7 +75,21 @@ module _ (T : List ℕ) (good : GoodRows T) where
       let e : k ≡ size T + i = omega arith in
       rw sub-one (ap (λ j. written (objectOf T j)) e ∙ row-written i (omega arith) (omega arith))
 
-  -- the whole tree's, and its semicolon
-  pub tree-written : textOf (sentenceOf [] (treeOf T)) ≡ written (objectOf T (2 * size T - 1)) ++ (semicolon ∷ [])
+  -- ---- the whole tree's, with its semicolon
+
+  abbrev pub last : List ℕ
+  last = written (objectOf T (2 * size T - 1))
+
+  tree-written : textOf (sentenceOf [] (treeOf T)) ≡ last ++ (semicolon ∷ [])
   unfolding textOf
   tree-written = ap (λ t. written t ++ (semicolon ∷ [])) (sym (last-object T good))
+
+  pub length-tree : length (textOf (sentenceOf [] (treeOf T))) ≡ length last + 1
+  length-tree = ap length tree-written ∙ length-append last (semicolon ∷ [])
+
+  -- stored at the last of as many places
+  pub tree-stored : (out : List ℕ) (k : ℕ) → k ≡ length (textOf (sentenceOf [] (treeOf T))) →
+      set (sets out 0 last) (k - 1) semicolon ≡ sets out 0 (textOf (sentenceOf [] (treeOf T)))
+  tree-stored out k e =
+      let place : k - 1 ≡ 0 + length last = omega (arith, length-tree) in
+      rw (place, tree-written) (sym (sets-append last (semicolon ∷ []) out 0))

@@ -1,46 +1,54 @@
+-- `write_text` meets its contract: the last object is walked, and the semicolon follows its text.
+use mathlib.Core.Path.{ap}
+use native.Mathlib.Omega.{arith}
+use lib.ListN.{length}
+use lib.Seq.{length-sets}
+use Rattle.work_newick_writing.proofs.Written.{length-tree, tree-stored}
 use borrow.Author.Needs.{needs}
 use Rattle.work_newick_writing.proofs.writing.write_text.Statement.{statement}
 use Rattle.work_newick_writing.proofs.writing.write_text.Tie as tie
-use Rattle.work_newick_writing.proofs.writing.write_text.Reads as reads
-use Rattle.work_newick_writing.proofs.writing.write_text.Lts as lts
-use Rattle.work_newick_writing.proofs.counting.text_length.Reads as text-length-reads
-use Rattle.work_newick_writing.proofs.writing.walk.Reads as walk-reads
 
--- src/writing.rt:83:13
+abbrev startOf : tie.After-text-length → tie.Start
+startOf c = c .before .before .before .before .before .before .before
+
 element-copy-out-n : tie.Need-element-copy-out-n
 element-copy-out-n c = search needs
 
--- src/writing.rt:84:23
 mul-walk : tie.Need-mul-walk
 mul-walk c = search needs
 
--- src/writing.rt:84:23
 sub-walk : tie.Need-sub-walk
 sub-walk c = search needs
 
--- src/writing.rt:84:5
 walk-requires : tie.Need-walk-requires
-walk-requires c κs = ?
+walk-requires c κs =
+    let s = c .before .before .before in
+    let g = s .pre .0 .0 in
+    let some = g .some in
+    (s .pre .0, (omega arith, omega (arith, length-tree (s .args .rows .now) g, s .pre .1)))
 
--- src/writing.rt:85:9
 text-length-requires : tie.Need-text-length-requires
 text-length-requires c κs = search needs
 
--- src/writing.rt:85:9
 sub-out : tie.Need-sub-out
-sub-out c = ?
+sub-out c =
+    let s = startOf c in
+    omega (arith, c .text-length .ensures, length-tree (s .args .rows .now) (s .pre .0 .0))
 
--- src/writing.rt:85:5
 slice-write-out : tie.Need-slice-write-out
-slice-write-out c = ?
+slice-write-out c =
+    let s = startOf c in
+    let same = simp length-sets at (ap length (c .before .before .before .walk .ensures)) in
+    omega (arith, same, c .text-length .ensures, length-tree (s .args .rows .now) (s .pre .0 .0), s .pre .1)
 
--- src/writing.rt:77:1
 same-length : tie.Need-same-length
 same-length c = search needs
 
--- src/writing.rt:77:1
 returns : tie.Need-returns
-returns c = ?
+returns c =
+    let s = startOf c in
+    rw (c .before .before .before .walk .ensures)
+    (tree-stored (s .args .rows .now) (s .pre .0 .0) (s .args .out .now) (c .text-length .result) (c .text-length .ensures))
 
 pub write-text-spec : {M : Type 1} → statement M
 write-text-spec =
