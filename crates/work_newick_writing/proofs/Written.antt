@@ -49,7 +49,7 @@ written-most (fork i u l) =
 
 -- ---- the objects of a good row array
 
-module _ (T : List ℕ) (good : GoodRows T) where
+module _ {T : List ℕ} (good : GoodRows T) where
   pub leaf-written : (k : ℕ) → k ≤ size T → written (objectOf T k) ≡ decimal k
   leaf-written k h = ap written (object-leaf (size T) (upper T) (lower T) (good .rule) k h) ∙ written-leaf k
 
@@ -68,12 +68,13 @@ module _ (T : List ℕ) (good : GoodRows T) where
         omega (arith, children-within T good i p q)
 
   -- by the entries of the row that makes object k
-  pub object-written : (k : ℕ) (above : size T < k) (below : k < 2 * size T) →
-      written (objectOf T k) ≡ grouped (written (objectOf T (upperOf T good k above below))) (written (objectOf T (lowerOf T good k above below)))
-  object-written k above below =
-      let i = k - size T in
-      let e : k ≡ size T + i = omega arith in
-      rw sub-one (ap (λ j. written (objectOf T j)) e ∙ row-written i (omega arith) (omega arith))
+  module _ (k : ℕ) (above : size T < k) (below : k < 2 * size T) where
+    pub object-written : written (objectOf T k)
+        ≡ grouped (written (objectOf T (upperOf T good k above below))) (written (objectOf T (lowerOf T good k above below)))
+    object-written =
+        let i = k - size T in
+        let e : k ≡ size T + i = omega arith in
+        rw sub-one (ap (λ j. written (objectOf T j)) e ∙ row-written i (omega arith) (omega arith))
 
   -- ---- the whole tree's, with its semicolon
 

@@ -1,7 +1,7 @@
 -- `count_text` meets its contract. The loop's invariant: the rows before row i have their counts.
 use native.Mathlib.Omega.{arith}
 use borrow.Author.Needs.{needs}
-use Prim.Native.Nat.{_+_, _-_, _*_, _≤_, _<_}
+use Prim.Native.Nat.{_+_, _-_, _≤_, _<_}
 use Rattle.work_trees.specs.Rows.{size}
 use Rattle.work_trees.proofs.LeafCounts.{first-below, second-below}
 use Rattle.work_newick_writing.proofs.Counted.{CountedTo, counted-more, counted-all, both-most}
@@ -33,9 +33,8 @@ row-most : (c : tie.After-bytes-under2 Inv-loop μ-loop) →
     c .before .before .before .bytes-under .result + c .bytes-under2 .result + 3 ≤ 3069
 row-most c =
     let l = atLoop c in
-    let s = startOf l in
-    both-most (s .args .rows .now) (s .pre .0) (l .loop .i) (l .loop .inv .from) (row-below (inLoop c)) (l .loop .bytes) (l .loop .inv) _ _
-    (c .before .before .before .bytes-under .ensures) (c .bytes-under2 .ensures)
+    both-most (startOf l .pre .0) (l .loop .inv) (row-below (inLoop c)) (c .before .before .before .bytes-under .ensures)
+    (c .bytes-under2 .ensures)
 
 -- ---- the needs
 
@@ -114,15 +113,11 @@ loop-less c = search needs
 loop-again : tie.Need-loop-again Inv-loop μ-loop
 loop-again c =
     let l = atLoop c in
-    let s = startOf l in
-    counted-more (s .args .rows .now) (s .pre .0) (l .loop .i) (l .loop .inv .from) (row-below (inLoop c)) (l .loop .bytes) (l .loop .inv)
-    _ _ (c .before .before .before .bytes-under .ensures) (c .bytes-under2 .ensures)
+    counted-more (startOf l .pre .0) (l .loop .inv) (row-below (inLoop c)) (c .before .before .before .bytes-under .ensures)
+    (c .bytes-under2 .ensures)
 
 returns : tie.Need-returns Inv-loop μ-loop
-returns c =
-    let l = c .before in
-    let s = startOf l in
-    counted-all (s .args .rows .now) (s .pre .0) (l .loop .bytes) (l .loop .i) (l .loop .inv) (omega arith)
+returns c = counted-all (c .before .loop .inv) (c .loop-test .left)
 
 pub count-text-spec : {M : Type 1} → statement M
 count-text-spec =

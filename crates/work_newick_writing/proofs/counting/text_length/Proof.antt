@@ -26,8 +26,8 @@ add-result c = search needs
 
 returns : tie.Need-returns
 returns c =
-    let s = c .before .before in
-    ap (λ k. k + 1) (c .bytes-under .ensures) ∙ tree-counted (s .args .rows .now) (s .pre .0) (s .args .bytes .now) (s .pre .1)
+    let p = c .before .before .pre in
+    ap (λ k. k + 1) (c .bytes-under .ensures) ∙ tree-counted (p .0) (p .1)
 
 pub text-length-spec : {M : Type 1} → statement M
 text-length-spec =

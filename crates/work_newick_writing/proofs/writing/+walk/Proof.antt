@@ -1,3 +1,5 @@
+-- `walk` meets its contract: a row's marks and its shorter child's text are written, the other child's text remains, and in the end a
+-- leaf's. The measure is the object's number, of the calls and of the loop, since a child's is below its parent's.
 use Prim.Native.Nat.{ℕ, _+_, _-_, _*_, _≤_, _<_}
 use mathlib.Core.Path.{_≡_, ap, _∙_}
 use mathlib.Core.List.{List}
@@ -46,239 +48,232 @@ claims t = (
   write-leaf-reads.Learnt,
 )
 
-abbrev InLoop : ℕ → Type 0
-InLoop t = walk-lts.In-loop (claims t) (walk-at t) walk.Post walk-Inv-loop walk-μ-loop
+module _ (t : ℕ) where
+  abbrev Start : Type 0
+  Start = walk-lts.Start (claims t) (walk-at t) walk.Post walk-Inv-loop walk-μ-loop
 
--- where both texts are counted
-abbrev Counted : ℕ → Type 0
-Counted t = walk-lts.After-bytes-under2 (claims t) (walk-at t) walk.Post walk-Inv-loop walk-μ-loop
+  abbrev InLoop : Type 0
+  InLoop = walk-lts.In-loop (claims t) (walk-at t) walk.Post walk-Inv-loop walk-μ-loop
 
--- ---- at a row's object
+  abbrev AfterBoth : Type 0
+  AfterBoth = walk-lts.After-bytes-under2 (claims t) (walk-at t) walk.Post walk-Inv-loop walk-μ-loop
 
-module _ (t : ℕ) (c : InLoop t) where
-  abbrev s : walk-lts.Start (claims t) (walk-at t) walk.Post walk-Inv-loop walk-μ-loop
-  s = c .before .before .before .before
+  -- ---- at a row's object
 
-  abbrev T : List ℕ
-  T = s .args .rows .now
+  module _ (c : InLoop) where
+    abbrev start : Start
+    start = c .before .before .before .before
 
-  abbrev obj : ℕ
-  obj = c .before .loop .obj
+    abbrev T : List ℕ
+    T = start .args .rows .now
 
-  -- the row's two entries, and their texts
-  abbrev a : ℕ
-  a = getD T (2 * (obj - size T - 1)) 0
+    abbrev obj : ℕ
+    obj = c .before .loop .obj
 
-  abbrev b : ℕ
-  b = getD T (2 * (obj - size T - 1) + 1) 0
+    -- the row's two entries, and their texts
+    abbrev a : ℕ
+    a = getD T (2 * (obj - size T - 1)) 0
 
-  abbrev A : List ℕ
-  A = written (objectOf T a)
+    abbrev b : ℕ
+    b = getD T (2 * (obj - size T - 1) + 1) 0
 
-  abbrev B : List ℕ
-  B = written (objectOf T b)
+    abbrev A : List ℕ
+    A = written (objectOf T a)
 
-record Known (t : ℕ) (c : InLoop t) : Type 0 where
-  below : obj t c < 2 * size (T t c)
-  a-falls : a t c < obj t c
-  b-falls : b t c < obj t c
-  same : length (c .before .loop .out) ≡ length (s t c .args .out .now)
-  fits : c .before .loop .at + (length (A t c) + length (B t c) + 3) ≤ length (c .before .loop .out)
+    abbrev B : List ℕ
+    B = written (objectOf T b)
 
-known : (t : ℕ) (c : InLoop t) → Known t c
-known t c =
-    let g = s t c .pre .1 .0 .0 in
-    let h = c .loop-test .taken in
-    let l = c .before .loop in
-    let out₀ = s t c .args .out .now in
-    let top = s t c .args .top in
-    let from = s t c .args .from in
-    let below : obj t c < 2 * size (T t c) = omega (arith, l .inv .most, s t c .pre .1 .1 .0) in
-    record {
-      below = below;
-      a-falls = upper-falls (T t c) g (obj t c) h below .1;
-      b-falls = lower-falls (T t c) g (obj t c) h below .1;
-      same = remains-long (T t c) g out₀ top from (l .out) (obj t c) (l .at) (l .inv);
-      fits = room (T t c) g out₀ top from (l .out) (obj t c) (l .at) (l .inv) h below;
-    }
+  record Known (c : InLoop) : Type 0 where
+    below : obj c < 2 * size (T c)
+    a-falls : a c < obj c
+    b-falls : b c < obj c
+    same : length (c .before .loop .out) ≡ length (start c .args .out .now)
+    fits : c .before .loop .at + (length (A c) + length (B c) + 3) ≤ length (c .before .loop .out)
 
--- the counts that the notes give
-module _ (t : ℕ) (c : Counted t) where
-  abbrev i : InLoop t
-  i = c .before .before .before .before
+  known : (c : InLoop) → Known c
+  known c =
+      let g = start c .pre .1 .0 .0 in
+      let h = c .loop-test .taken in
+      let r = c .before .loop .inv in
+      let below : obj c < 2 * size (T c) = omega (arith, r .most, start c .pre .1 .1 .0) in
+      record {
+        below = below;
+        a-falls = upper-falls (T c) g (obj c) h below .1;
+        b-falls = lower-falls (T c) g (obj c) h below .1;
+        same = remains-long g r;
+        fits = room g r h below;
+      }
 
-  first : c .before .bytes-under .result ≡ length (A t i)
-  first =
-      let k = known t i in
-      let p = s t i .pre .1 .0 in
-      c .before .bytes-under .ensures ∙ count-is (T t i) (p .0) (s t i .args .bytes .now) (p .1) (a t i) (omega arith)
+  -- the entries' counts, and the room that they ask
+  module _ (c : AfterBoth) where
+    abbrev here : InLoop
+    here = c .before .before .before .before
 
-  second : c .bytes-under2 .result ≡ length (B t i)
-  second =
-      let k = known t i in
-      let p = s t i .pre .1 .0 in
-      c .bytes-under2 .ensures ∙ count-is (T t i) (p .0) (s t i .args .bytes .now) (p .1) (b t i) (omega arith)
+    first : c .before .bytes-under .result ≡ length (A here)
+    first =
+        let k = known here in
+        let p = start here .pre .1 .0 in
+        c .before .bytes-under .ensures ∙ count-is (p .0) (p .1) (a here) (omega arith)
 
-record Within (t : ℕ) (c : Counted t) : Type 0 where
-  same : length (c .before .before .before .before .before .loop .out) ≡ length (s t (i t c) .args .out .now)
-  fits : c .before .before .before .before .before .loop .at + (c .before .bytes-under .result + c .bytes-under2 .result + 3)
-      ≤ length (c .before .before .before .before .before .loop .out)
+    second : c .bytes-under2 .result ≡ length (B here)
+    second =
+        let k = known here in
+        let p = start here .pre .1 .0 in
+        c .bytes-under2 .ensures ∙ count-is (p .0) (p .1) (b here) (omega arith)
 
--- so all is within the memory
-within : (t : ℕ) (c : Counted t) → Within t c
-within t c = let k = known t (i t c) in record { same = k .same; fits = omega (arith, first t c, second t c) }
+  record Within (c : AfterBoth) : Type 0 where
+    same : length (here c .before .loop .out) ≡ length (start (here c) .args .out .now)
+    fits : here c .before .loop .at + (c .before .bytes-under .result + c .bytes-under2 .result + 3) ≤ length (here c .before .loop .out)
 
--- ---- the needs
+  within : (c : AfterBoth) → Within c
+  within c = let k = known (here c) in record { same = k .same; fits = omega (arith, first c, second c) }
 
-walk-element-copy-out-n : (t : ℕ) → walk-lts.Need-element-copy-out-n (claims t) (walk-at t) walk.Post walk-Inv-loop walk-μ-loop
-walk-element-copy-out-n t c = search needs
+  -- ---- the needs
 
-walk-loop-holds : (t : ℕ) → walk-lts.Need-loop-holds (claims t) (walk-at t) walk.Post walk-Inv-loop walk-μ-loop
-walk-loop-holds t c = search needs
+  walk-element-copy-out-n : walk-lts.Need-element-copy-out-n (claims t) (walk-at t) walk.Post walk-Inv-loop walk-μ-loop
+  walk-element-copy-out-n c = search needs
 
-walk-cast-i : (t : ℕ) → walk-lts.Need-cast-i (claims t) (walk-at t) walk.Post walk-Inv-loop walk-μ-loop
-walk-cast-i t c = search needs
+  walk-loop-holds : walk-lts.Need-loop-holds (claims t) (walk-at t) walk.Post walk-Inv-loop walk-μ-loop
+  walk-loop-holds c = search needs
 
-walk-cast-i-2 : (t : ℕ) → walk-lts.Need-cast-i-2 (claims t) (walk-at t) walk.Post walk-Inv-loop walk-μ-loop
-walk-cast-i-2 t c = search needs
+  walk-cast-i : walk-lts.Need-cast-i (claims t) (walk-at t) walk.Post walk-Inv-loop walk-μ-loop
+  walk-cast-i c = search needs
 
-walk-sub-i : (t : ℕ) → walk-lts.Need-sub-i (claims t) (walk-at t) walk.Post walk-Inv-loop walk-μ-loop
-walk-sub-i t c = search needs
+  walk-cast-i-2 : walk-lts.Need-cast-i-2 (claims t) (walk-at t) walk.Post walk-Inv-loop walk-μ-loop
+  walk-cast-i-2 c = search needs
 
-walk-sub-i-2 : (t : ℕ) → walk-lts.Need-sub-i-2 (claims t) (walk-at t) walk.Post walk-Inv-loop walk-μ-loop
-walk-sub-i-2 t c = search needs
+  walk-sub-i : walk-lts.Need-sub-i (claims t) (walk-at t) walk.Post walk-Inv-loop walk-μ-loop
+  walk-sub-i c = search needs
 
-walk-mul-a : (t : ℕ) → walk-lts.Need-mul-a (claims t) (walk-at t) walk.Post walk-Inv-loop walk-μ-loop
-walk-mul-a t c = search needs
+  walk-sub-i-2 : walk-lts.Need-sub-i-2 (claims t) (walk-at t) walk.Post walk-Inv-loop walk-μ-loop
+  walk-sub-i-2 c = search needs
 
-walk-mul-a-2 : (t : ℕ) → walk-lts.Need-mul-a-2 (claims t) (walk-at t) walk.Post walk-Inv-loop walk-μ-loop
-walk-mul-a-2 t c = search needs
+  walk-mul-a : walk-lts.Need-mul-a (claims t) (walk-at t) walk.Post walk-Inv-loop walk-μ-loop
+  walk-mul-a c = search needs
 
-walk-element-copy-out-a : (t : ℕ) → walk-lts.Need-element-copy-out-a (claims t) (walk-at t) walk.Post walk-Inv-loop walk-μ-loop
-walk-element-copy-out-a t c = search needs
+  walk-mul-a-2 : walk-lts.Need-mul-a-2 (claims t) (walk-at t) walk.Post walk-Inv-loop walk-μ-loop
+  walk-mul-a-2 c = search needs
 
-walk-mul-b : (t : ℕ) → walk-lts.Need-mul-b (claims t) (walk-at t) walk.Post walk-Inv-loop walk-μ-loop
-walk-mul-b t c = search needs
+  walk-element-copy-out-a : walk-lts.Need-element-copy-out-a (claims t) (walk-at t) walk.Post walk-Inv-loop walk-μ-loop
+  walk-element-copy-out-a c = search needs
 
-walk-add-b : (t : ℕ) → walk-lts.Need-add-b (claims t) (walk-at t) walk.Post walk-Inv-loop walk-μ-loop
-walk-add-b t c = search needs
+  walk-mul-b : walk-lts.Need-mul-b (claims t) (walk-at t) walk.Post walk-Inv-loop walk-μ-loop
+  walk-mul-b c = search needs
 
-walk-mul-b-2 : (t : ℕ) → walk-lts.Need-mul-b-2 (claims t) (walk-at t) walk.Post walk-Inv-loop walk-μ-loop
-walk-mul-b-2 t c = search needs
+  walk-add-b : walk-lts.Need-add-b (claims t) (walk-at t) walk.Post walk-Inv-loop walk-μ-loop
+  walk-add-b c = search needs
 
-walk-element-copy-out-b : (t : ℕ) → walk-lts.Need-element-copy-out-b (claims t) (walk-at t) walk.Post walk-Inv-loop walk-μ-loop
-walk-element-copy-out-b t c = search needs
+  walk-mul-b-2 : walk-lts.Need-mul-b-2 (claims t) (walk-at t) walk.Post walk-Inv-loop walk-μ-loop
+  walk-mul-b-2 c = search needs
 
-walk-bytes-under-requires : (t : ℕ) → walk-lts.Need-bytes-under-requires (claims t) (walk-at t) walk.Post walk-Inv-loop walk-μ-loop
-walk-bytes-under-requires t c κs =
-    let g = s t (c .before .before) .pre .1 .0 .0 in
-    let k = known t (c .before .before) in
-    (g .some, g .most, omega arith)
+  walk-element-copy-out-b : walk-lts.Need-element-copy-out-b (claims t) (walk-at t) walk.Post walk-Inv-loop walk-μ-loop
+  walk-element-copy-out-b c = search needs
 
-walk-cast-first : (t : ℕ) → walk-lts.Need-cast-first (claims t) (walk-at t) walk.Post walk-Inv-loop walk-μ-loop
-walk-cast-first t c = search needs
+  walk-bytes-under-requires : walk-lts.Need-bytes-under-requires (claims t) (walk-at t) walk.Post walk-Inv-loop walk-μ-loop
+  walk-bytes-under-requires c κs =
+      let g = start (c .before .before) .pre .1 .0 .0 in
+      let k = known (c .before .before) in
+      (g .some, g .most, omega arith)
 
-walk-bytes-under-requires-2 : (t : ℕ) → walk-lts.Need-bytes-under-requires-2 (claims t) (walk-at t) walk.Post walk-Inv-loop walk-μ-loop
-walk-bytes-under-requires-2 t c κs =
-    let g = s t (c .before .before .before) .pre .1 .0 .0 in
-    let k = known t (c .before .before .before) in
-    (g .some, g .most, omega arith)
+  walk-cast-first : walk-lts.Need-cast-first (claims t) (walk-at t) walk.Post walk-Inv-loop walk-μ-loop
+  walk-cast-first c = search needs
 
-walk-cast-second : (t : ℕ) → walk-lts.Need-cast-second (claims t) (walk-at t) walk.Post walk-Inv-loop walk-μ-loop
-walk-cast-second t c = search needs
+  walk-bytes-under-requires-2 : walk-lts.Need-bytes-under-requires-2 (claims t) (walk-at t) walk.Post walk-Inv-loop walk-μ-loop
+  walk-bytes-under-requires-2 c κs =
+      let g = start (c .before .before .before) .pre .1 .0 .0 in
+      let k = known (c .before .before .before) in
+      (g .some, g .most, omega arith)
 
-walk-add-mid : (t : ℕ) → walk-lts.Need-add-mid (claims t) (walk-at t) walk.Post walk-Inv-loop walk-μ-loop
-walk-add-mid t c = omega (arith, within t c)
+  walk-cast-second : walk-lts.Need-cast-second (claims t) (walk-at t) walk.Post walk-Inv-loop walk-μ-loop
+  walk-cast-second c = search needs
 
-walk-add-mid-2 : (t : ℕ) → walk-lts.Need-add-mid-2 (claims t) (walk-at t) walk.Post walk-Inv-loop walk-μ-loop
-walk-add-mid-2 t c = omega (arith, within t c)
+  walk-add-mid : walk-lts.Need-add-mid (claims t) (walk-at t) walk.Post walk-Inv-loop walk-μ-loop
+  walk-add-mid c = omega (arith, within c)
 
-walk-slice-write-out : (t : ℕ) → walk-lts.Need-slice-write-out (claims t) (walk-at t) walk.Post walk-Inv-loop walk-μ-loop
-walk-slice-write-out t c = omega (arith, within t c)
+  walk-add-mid-2 : walk-lts.Need-add-mid-2 (claims t) (walk-at t) walk.Post walk-Inv-loop walk-μ-loop
+  walk-add-mid-2 c = omega (arith, within c)
 
-walk-slice-write-out-2 : (t : ℕ) → walk-lts.Need-slice-write-out-2 (claims t) (walk-at t) walk.Post walk-Inv-loop walk-μ-loop
-walk-slice-write-out-2 t c = simp length-set (omega (arith, within t c))
+  walk-slice-write-out : walk-lts.Need-slice-write-out (claims t) (walk-at t) walk.Post walk-Inv-loop walk-μ-loop
+  walk-slice-write-out c = omega (arith, within c)
 
-walk-add-out : (t : ℕ) → walk-lts.Need-add-out (claims t) (walk-at t) walk.Post walk-Inv-loop walk-μ-loop
-walk-add-out t c = omega (arith, within t c)
+  walk-slice-write-out-2 : walk-lts.Need-slice-write-out-2 (claims t) (walk-at t) walk.Post walk-Inv-loop walk-μ-loop
+  walk-slice-write-out-2 c = simp length-set (omega (arith, within c))
 
-walk-add-out-2 : (t : ℕ) → walk-lts.Need-add-out-2 (claims t) (walk-at t) walk.Post walk-Inv-loop walk-μ-loop
-walk-add-out-2 t c = omega (arith, within t c)
+  walk-add-out : walk-lts.Need-add-out (claims t) (walk-at t) walk.Post walk-Inv-loop walk-μ-loop
+  walk-add-out c = omega (arith, within c)
 
-walk-slice-write-out-3 : (t : ℕ) → walk-lts.Need-slice-write-out-3 (claims t) (walk-at t) walk.Post walk-Inv-loop walk-μ-loop
-walk-slice-write-out-3 t c = simp length-set (omega (arith, within t c))
+  walk-add-out-2 : walk-lts.Need-add-out-2 (claims t) (walk-at t) walk.Post walk-Inv-loop walk-μ-loop
+  walk-add-out-2 c = omega (arith, within c)
 
-walk-add-walk : (t : ℕ) → walk-lts.Need-add-walk (claims t) (walk-at t) walk.Post walk-Inv-loop walk-μ-loop
-walk-add-walk t c = omega (arith, within t (c .before .before))
+  walk-slice-write-out-3 : walk-lts.Need-slice-write-out-3 (claims t) (walk-at t) walk.Post walk-Inv-loop walk-μ-loop
+  walk-slice-write-out-3 c = simp length-set (omega (arith, within c))
 
-walk-walk-requires : (t : ℕ) → walk-lts.Need-walk-requires (claims t) (walk-at t) walk.Post walk-Inv-loop walk-μ-loop
-walk-walk-requires t c κs =
-    let v = c .before .before in
-    let p = s t (i t v) .pre in
-    let k = known t (i t v) in
-    let most = i t v .before .loop .inv .most in
-    (omega arith, (p .1 .0, (omega arith, simp length-set (omega (arith, first t v)))))
+  walk-add-walk : walk-lts.Need-add-walk (claims t) (walk-at t) walk.Post walk-Inv-loop walk-μ-loop
+  walk-add-walk c = omega (arith, within (c .before .before))
 
-walk-add-at : (t : ℕ) → walk-lts.Need-add-at (claims t) (walk-at t) walk.Post walk-Inv-loop walk-μ-loop
-walk-add-at t c = omega (arith, within t (c .before .before .before .before .before))
+  walk-walk-requires : walk-lts.Need-walk-requires (claims t) (walk-at t) walk.Post walk-Inv-loop walk-μ-loop
+  walk-walk-requires c κs =
+      let v = c .before .before in
+      let p = start (here v) .pre in
+      let k = known (here v) in
+      let most = here v .before .loop .inv .most in
+      (omega arith, (p .1 .0, (omega arith, simp length-set (omega (arith, first v)))))
 
-walk-loop-less : (t : ℕ) → walk-lts.Need-loop-less (claims t) (walk-at t) walk.Post walk-Inv-loop walk-μ-loop
-walk-loop-less t c = known t (c .before .before .before .before .before .before .before .before .before) .b-falls
+  walk-add-at : walk-lts.Need-add-at (claims t) (walk-at t) walk.Post walk-Inv-loop walk-μ-loop
+  walk-add-at c = omega (arith, within (c .before .before .before .before .before))
 
-walk-loop-again : (t : ℕ) → walk-lts.Need-loop-again (claims t) (walk-at t) walk.Post walk-Inv-loop walk-μ-loop
-walk-loop-again t c =
-    let v = c .before .before .before .before .before in
-    let l = i t v .before .loop in
-    let g = s t (i t v) .args in
-    upper-done (T t (i t v)) (s t (i t v) .pre .1 .0 .0) (g .out .now) (g .top) (g .from) (l .out) (l .obj) (l .at) (l .inv)
-    (i t v .loop-test .taken) (known t (i t v) .below) (v .before .bytes-under .result) (v .bytes-under2 .result) (first t v) (second t v)
-    _ (c .before .before .walk .ensures)
+  walk-loop-less : walk-lts.Need-loop-less (claims t) (walk-at t) walk.Post walk-Inv-loop walk-μ-loop
+  walk-loop-less c = known (c .before .before .before .before .before .before .before .before .before) .b-falls
 
-walk-add-walk-2 : (t : ℕ) → walk-lts.Need-add-walk-2 (claims t) (walk-at t) walk.Post walk-Inv-loop walk-μ-loop
-walk-add-walk-2 t c = omega (arith, within t (c .before .before))
+  walk-loop-again : walk-lts.Need-loop-again (claims t) (walk-at t) walk.Post walk-Inv-loop walk-μ-loop
+  walk-loop-again c =
+      let v = c .before .before .before .before .before in
+      let j = here v in
+      upper-done (start j .pre .1 .0 .0) (j .before .loop .inv) (j .loop-test .taken) (known j .below) _ _ (first v) (second v) _
+      (c .before .before .walk .ensures)
 
-walk-walk-requires-2 : (t : ℕ) → walk-lts.Need-walk-requires-2 (claims t) (walk-at t) walk.Post walk-Inv-loop walk-μ-loop
-walk-walk-requires-2 t c κs =
-    let v = c .before .before in
-    let p = s t (i t v) .pre in
-    let k = known t (i t v) in
-    let most = i t v .before .loop .inv .most in
-    (omega arith, (p .1 .0, (omega arith, simp length-set (omega (arith, first t v)))))
+  walk-add-walk-2 : walk-lts.Need-add-walk-2 (claims t) (walk-at t) walk.Post walk-Inv-loop walk-μ-loop
+  walk-add-walk-2 c = omega (arith, within (c .before .before))
 
-walk-add-at-2 : (t : ℕ) → walk-lts.Need-add-at-2 (claims t) (walk-at t) walk.Post walk-Inv-loop walk-μ-loop
-walk-add-at-2 t c = omega (arith, within t (c .before .before .before .before .before))
+  walk-walk-requires-2 : walk-lts.Need-walk-requires-2 (claims t) (walk-at t) walk.Post walk-Inv-loop walk-μ-loop
+  walk-walk-requires-2 c κs =
+      let v = c .before .before in
+      let p = start (here v) .pre in
+      let k = known (here v) in
+      let most = here v .before .loop .inv .most in
+      (omega arith, (p .1 .0, (omega arith, simp length-set (omega (arith, first v)))))
 
-walk-loop-less-2 : (t : ℕ) → walk-lts.Need-loop-less-2 (claims t) (walk-at t) walk.Post walk-Inv-loop walk-μ-loop
-walk-loop-less-2 t c = known t (c .before .before .before .before .before .before .before .before .before) .a-falls
+  walk-add-at-2 : walk-lts.Need-add-at-2 (claims t) (walk-at t) walk.Post walk-Inv-loop walk-μ-loop
+  walk-add-at-2 c = omega (arith, within (c .before .before .before .before .before))
 
-walk-loop-again-2 : (t : ℕ) → walk-lts.Need-loop-again-2 (claims t) (walk-at t) walk.Post walk-Inv-loop walk-μ-loop
-walk-loop-again-2 t c =
-    let v = c .before .before .before .before .before in
-    let l = i t v .before .loop in
-    let g = s t (i t v) .args in
-    lower-done (T t (i t v)) (s t (i t v) .pre .1 .0 .0) (g .out .now) (g .top) (g .from) (l .out) (l .obj) (l .at) (l .inv)
-    (i t v .loop-test .taken) (known t (i t v) .below) (v .before .bytes-under .result) (v .bytes-under2 .result) (first t v) (second t v)
-    _ (c .before .before .walk2 .ensures)
+  walk-loop-less-2 : walk-lts.Need-loop-less-2 (claims t) (walk-at t) walk.Post walk-Inv-loop walk-μ-loop
+  walk-loop-less-2 c = known (c .before .before .before .before .before .before .before .before .before) .a-falls
 
-walk-write-leaf-requires : (t : ℕ) → walk-lts.Need-write-leaf-requires (claims t) (walk-at t) walk.Post walk-Inv-loop walk-μ-loop
-walk-write-leaf-requires t c κs =
-    let l = c .before .before in
-    let s = l .before .before .before in
-    let g = s .pre .1 .0 .0 in
-    let most = g .most in
-    (omega arith, omega (arith, l .loop .inv .fits, ap length (leaf-written (s .args .rows .now) g (l .loop .obj) (c .before .loop-test .left))))
+  walk-loop-again-2 : walk-lts.Need-loop-again-2 (claims t) (walk-at t) walk.Post walk-Inv-loop walk-μ-loop
+  walk-loop-again-2 c =
+      let v = c .before .before .before .before .before in
+      let j = here v in
+      lower-done (start j .pre .1 .0 .0) (j .before .loop .inv) (j .loop-test .taken) (known j .below) _ _ (first v) (second v) _
+      (c .before .before .walk2 .ensures)
 
-walk-returns : (t : ℕ) → walk-lts.Need-returns (claims t) (walk-at t) walk.Post walk-Inv-loop walk-μ-loop
-walk-returns t c =
-    let v = c .before .before .before .before in
-    let l = v .before in
-    let s = l .before .before .before in
-    c .before .before .write-leaf .ensures
-    ∙ remains-leaf (s .args .rows .now) (s .pre .1 .0 .0) (s .args .out .now) (s .args .top) (s .args .from) (l .loop .out) (l .loop .obj)
-    (l .loop .at) (l .loop .inv) (v .loop-test .left)
+  walk-write-leaf-requires : walk-lts.Need-write-leaf-requires (claims t) (walk-at t) walk.Post walk-Inv-loop walk-μ-loop
+  walk-write-leaf-requires c κs =
+      let l = c .before .before in
+      let s = l .before .before .before in
+      let g = s .pre .1 .0 .0 in
+      let most = g .most in
+      (omega arith, omega (arith, l .loop .inv .fits, ap length (leaf-written g (l .loop .obj) (c .before .loop-test .left))))
 
-walk-same-length : (t : ℕ) → walk-lts.Need-same-length (claims t) (walk-at t) walk.Post walk-Inv-loop walk-μ-loop
-walk-same-length t c = ap length (walk-returns t c) ∙ simp length-sets
+  walk-returns : walk-lts.Need-returns (claims t) (walk-at t) walk.Post walk-Inv-loop walk-μ-loop
+  walk-returns c =
+      let v = c .before .before .before .before in
+      let l = v .before in
+      let s = l .before .before .before in
+      c .before .before .write-leaf .ensures
+      ∙ remains-leaf (s .pre .1 .0 .0) (l .loop .inv) (v .loop-test .left)
+
+  walk-same-length : walk-lts.Need-same-length (claims t) (walk-at t) walk.Post walk-Inv-loop walk-μ-loop
+  walk-same-length c = ap length (walk-returns c) ∙ simp length-sets
 
 pub +walk-spec : {M : Type 1} → statement M
 +walk-spec = close μ-walk λ t. walk-lts.spec (claims t)

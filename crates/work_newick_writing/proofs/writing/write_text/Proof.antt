@@ -22,24 +22,21 @@ sub-walk c = search needs
 
 walk-requires : tie.Need-walk-requires
 walk-requires c κs =
-    let s = c .before .before .before in
-    let g = s .pre .0 .0 in
-    let some = g .some in
-    (s .pre .0, (omega arith, omega (arith, length-tree (s .args .rows .now) g, s .pre .1)))
+    let p = c .before .before .before .pre in
+    let some = p .0 .0 .some in
+    (p .0, (omega arith, omega (arith, length-tree (p .0 .0), p .1)))
 
 text-length-requires : tie.Need-text-length-requires
 text-length-requires c κs = search needs
 
 sub-out : tie.Need-sub-out
-sub-out c =
-    let s = startOf c in
-    omega (arith, c .text-length .ensures, length-tree (s .args .rows .now) (s .pre .0 .0))
+sub-out c = omega (arith, c .text-length .ensures, length-tree (startOf c .pre .0 .0))
 
 slice-write-out : tie.Need-slice-write-out
 slice-write-out c =
-    let s = startOf c in
+    let p = startOf c .pre in
     let same = simp length-sets at (ap length (c .before .before .before .walk .ensures)) in
-    omega (arith, same, c .text-length .ensures, length-tree (s .args .rows .now) (s .pre .0 .0), s .pre .1)
+    omega (arith, same, c .text-length .ensures, length-tree (p .0 .0), p .1)
 
 same-length : tie.Need-same-length
 same-length c = search needs
@@ -48,7 +45,7 @@ returns : tie.Need-returns
 returns c =
     let s = startOf c in
     rw (c .before .before .before .walk .ensures)
-    (tree-stored (s .args .rows .now) (s .pre .0 .0) (s .args .out .now) (c .text-length .result) (c .text-length .ensures))
+    (tree-stored (s .pre .0 .0) (s .args .out .now) (c .text-length .result) (c .text-length .ensures))
 
 pub write-text-spec : {M : Type 1} → statement M
 write-text-spec =
