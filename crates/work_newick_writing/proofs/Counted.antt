@@ -1,4 +1,5 @@
--- How many bytes the text of the object that each row makes has, noted row by row: those of its two children's texts, and three.
+-- How many bytes the text of the object that each row makes has, noted row by row: those of its two children's texts, and three. The
+-- loop's invariant, what one row more adds to it, and what the notes say once all rows are counted.
 use Prim.Native.Nat.{ℕ, pred, _+_, _-_, _*_, _≤_, _<_}
 use mathlib.Core.Path.{_≡_, sym, ap, _∙_}
 use mathlib.Core.List.{List, []}

@@ -1,4 +1,5 @@
--- The digits of a number below 10, of one below 100, and of any other: one, two or three.
+-- The digits of a leaf's number: one below 10, two below 100, and three for any other. So a leaf takes at most three bytes of a text,
+-- whatever its number is.
 use Prim.Native.Nat.{ℕ, _+_, _/_, _%_, _≤_, _<_}
 use mathlib.Core.Path.{_≡_, refl}
 use mathlib.Core.List.{[], _∷_}

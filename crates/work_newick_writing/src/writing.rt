@@ -1,6 +1,6 @@
 // The text of an object, written into lent memory: a leaf's digits, or the texts of its two children between
-// parentheses with a comma. The walk calls itself for the child with the shorter text and goes on with the other, so
-// that at most ten calls are open however deep the tree is.
+// parentheses with a comma. The walk calls itself for the child with the shorter text and goes on with the other in its
+// loop, so that at most ten calls are open however deep the tree is. (A last call that passes a slice is no jump.)
 ghost use mathlib.Core.Path.{_≡_};
 ghost use Prim.Native.Nat.{_+_, _*_, _≤_, _<_};
 ghost use mathlib.Core.List.{[]};
@@ -17,7 +17,7 @@ fn digit(d: u16) -> u8
     requires { ⌜ d < 10 ⌝ }
     ensures { λ r. ⌜ r ≡ 48 + d ⌝ }
 {
-    48 + d as u8
+    b'0' + d as u8
 }
 
 // Writes the digits of a leaf's number into out from place `at` on.

@@ -1,4 +1,5 @@
--- `bytes_under` meets its contract: a leaf's digits are counted, and a row's count is noted.
+-- `bytes_under` meets its contract: the test of the code is that of `bytesOf`, a leaf's digits are counted, and a row's count is read from
+-- the notes.
 use mathlib.Core.Path.{refl}
 use borrow.Author.Tests.{le-leb, lt-leb}
 use borrow.Author.Needs.{needs}

@@ -1,7 +1,8 @@
--- `count_text` meets its contract. The loop's invariant: the rows before row i have their counts.
+-- `count_text` meets its contract. The loop's invariant: the rows before row i have their counts. A count fits 16 bits, since no text has
+-- more than 3,069 bytes.
+use Prim.Native.Nat.{_+_, _-_, _≤_, _<_}
 use native.Mathlib.Omega.{arith}
 use borrow.Author.Needs.{needs}
-use Prim.Native.Nat.{_+_, _-_, _≤_, _<_}
 use Rattle.work_trees.specs.Rows.{size}
 use Rattle.work_trees.proofs.LeafCounts.{first-below, second-below}
 use Rattle.work_newick_writing.proofs.Counted.{CountedTo, counted-more, counted-all, both-most}

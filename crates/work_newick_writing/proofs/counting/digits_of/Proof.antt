@@ -1,4 +1,5 @@
--- `digits_of` meets its contract: a number below 10 has one digit, one below 100 two, and any other is written with three.
+-- `digits_of` meets its contract: a number below 10 has one digit, one below 100 two, and any other is written with three, as its two
+-- tests say.
 use mathlib.Core.Path.{sym, ap}
 use lib.ListN.{length}
 use Rattle.work_newick_writing.proofs.Decimal.{decimal-one, decimal-two, decimal-three}

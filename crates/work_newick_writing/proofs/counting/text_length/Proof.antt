@@ -1,4 +1,5 @@
--- `text_length` meets its contract: the last object's bytes and the semicolon.
+-- `text_length` meets its contract: the tree is the last object, so its text has as many bytes as the notes say of that one, and the
+-- semicolon.
 use Prim.Native.Nat.{_+_}
 use mathlib.Core.Path.{ap, _∙_}
 use Rattle.work_newick_writing.proofs.Counted.{tree-counted}

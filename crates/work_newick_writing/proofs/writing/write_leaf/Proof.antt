@@ -1,4 +1,5 @@
--- `write_leaf` meets its contract: one, two or three digits are written.
+-- `write_leaf` meets its contract: one, two or three digits are written, one after the other, and the places that they take are within
+-- the memory.
 use mathlib.Core.Path.{refl, ap}
 use native.Mathlib.Numerals.{add-one, add-two}
 use native.Mathlib.Omega.{arith}

@@ -1,4 +1,5 @@
--- `write_text` meets its contract: the last object is walked, and the semicolon follows its text.
+-- `write_text` meets its contract: the tree is the last object, which is walked, and the semicolon is written at the last place that the
+-- text takes.
 use mathlib.Core.Path.{ap}
 use native.Mathlib.Omega.{arith}
 use lib.ListN.{length}
