@@ -1,21 +1,22 @@
--- Rows with their entries exchanged where a layout turns them keep the tree rule, and their leaves stand in the layout's order; and a
--- row array in which they were exchanged one after the other has these rows.
+-- Rows with their entries exchanged keep the tree rule, and make the same objects with their rows' children exchanged; where a layout
+-- turns them, the leaves so stand in its order. A row array in which they were exchanged one after the other has these rows.
 use Prim.Native.Nat.{ℕ, zero, suc, pred, _+_, _-_, _*_, _≤_, _<_}
 use mathlib.Core.Path.{_≡_, refl, sym, ap, ap₂, _∙_}
 use mathlib.Core.Bool.{Bool, true, false, cond}
 use mathlib.Core.Logic.{_≢_}
-use mathlib.Core.List.{List, _++_}
+use mathlib.Core.List.{List}
 use native.Mathlib.Decide.{decLe, ℕ-discrete}
 use native.Mathlib.Numerals.{add-one}
 use native.Mathlib.Omega.{arith}
-use lib.ListN.{length, getD, set, drop, length-set}
+use lib.ListN.{length, getD, set, length-set}
 use lib.Seq.{getD-set-same, getD-set-other}
 use Rattle.tanglegram.specs.Lists.{Each}
-use Rattle.tanglegram.specs.Tree.{leaves, used, object, Row, Rule}
+use Rattle.tanglegram.specs.Tree.{Tree, fork, leaves, used, object, Row, Rule}
 use Rattle.tanglegram.specs.Order.{byte, turned, order}
 use Rattle.tanglegram.proofs.Tree.{object-leaf, object-fork}
-use Rattle.work_trees.specs.Rows.{upper, lower, size, objectOf, treeOf, GoodRows}
+use Rattle.work_trees.specs.Rows.{upper, lower, size, GoodRows}
 use Rattle.work_trees.specs.Exchange.{exchangedAt, exchangedTo, exchanged, Exchanges, Laid}
+use Rattle.work_trees.proofs.LaidTree.{exchangedTree, leaves-laid}
 use Rattle.work_trees.proofs.RowArray.{rows-long}
 
 -- ---- rows as functions
@@ -61,44 +62,50 @@ module _ (n : ℕ) (up low up′ low′ : ℕ → ℕ) (g : ℕ → Bool) (rule 
         lower-new = rw (e .1) (kept (low i) (c .lower-new));
       }
 
--- where the layout turns it
-module _ (n : ℕ) (up low up′ low′ : ℕ → ℕ) (lay : List ℕ) (rule : Rule n up low)
-    (entries : (i : ℕ) → 1 ≤ i → i < n → Exchanges (turned (byte lay i)) (up i) (low i) (up′ i) (low′ i)) where
-  kept-rule : Rule n up′ low′
-  kept-rule = exchanged-rule n up low up′ low′ (λ i. turned (byte lay i)) rule entries
+  -- ---- the objects that they make
 
-  leaf-case : (k : ℕ) → k ≤ n → leaves (object up′ low′ n k) ≡ order lay (object up low n k)
-  unfolding leaves order
-  leaf-case k h = rw (object-leaf n up′ low′ kept-rule k h, object-leaf n up low rule k h) refl
+  leaf-case : (k : ℕ) → k ≤ n → object up′ low′ n k ≡ exchangedTree g (object up low n k)
+  unfolding exchangedTree
+  leaf-case k h = rw (object-leaf n up′ low′ exchanged-rule k h, object-leaf n up low rule k h) refl
 
-  fork-case : (i : ℕ) → 1 ≤ i → i < n → ((j : ℕ) → j < n + i → leaves (object up′ low′ n j) ≡ order lay (object up low n j)) →
-      leaves (object up′ low′ n (n + i)) ≡ order lay (object up low n (n + i))
-  unfolding leaves order
+  fork-case : (i : ℕ) → 1 ≤ i → i < n → ((j : ℕ) → j < n + i → object up′ low′ n j ≡ exchangedTree g (object up low n j)) →
+      object up′ low′ n (n + i) ≡ exchangedTree g (object up low n (n + i))
+  unfolding exchangedTree
   fork-case i p q r =
-      rw (object-fork n up′ low′ kept-rule i p q, object-fork n up low rule i p q)
-      (go (turned (byte lay i)) (entries i p q) (rule i p q))
+      rw (object-fork n up′ low′ exchanged-rule i p q, object-fork n up low rule i p q) (go (g i) (entries i p q) (rule i p q))
     where
-      go : (b : Bool) → Exchanges b (up i) (low i) (up′ i) (low′ i) → Row n up low i →
-          leaves (object up′ low′ n (up′ i)) ++ leaves (object up′ low′ n (low′ i))
-          ≡ cond b (order lay (object up low n (low i)) ++ order lay (object up low n (up i)))
-          (order lay (object up low n (up i)) ++ order lay (object up low n (low i)))
-      go true e c = rw (e .0, e .1) (ap₂ _++_ (r (low i) (c .lower-below)) (r (up i) (c .upper-below)))
-      go false e c = rw (e .0, e .1) (ap₂ _++_ (r (up i) (c .upper-below)) (r (low i) (c .lower-below)))
+      before : ℕ → Tree
+      before j = exchangedTree g (object up low n j)
 
-  leaves-below : (f k : ℕ) → k ≤ f → k < n + n → leaves (object up′ low′ n k) ≡ order lay (object up low n k)
-  leaves-below zero k h b = leaf-case k (omega arith)
-  leaves-below (suc f) k h b = go (decLe k n) (λ j x y. leaves-below f j x y)
+      go : (b : Bool) → Exchanges b (up i) (low i) (up′ i) (low′ i) → Row n up low i →
+          fork i (object up′ low′ n (up′ i)) (object up′ low′ n (low′ i))
+          ≡ cond b (fork i (before (low i)) (before (up i))) (fork i (before (up i)) (before (low i)))
+      go true e c = rw (e .0, e .1) (ap₂ (fork i) (r (low i) (c .lower-below)) (r (up i) (c .upper-below)))
+      go false e c = rw (e .0, e .1) (ap₂ (fork i) (r (up i) (c .upper-below)) (r (low i) (c .lower-below)))
+
+  objects-below : (f k : ℕ) → k ≤ f → k < n + n → object up′ low′ n k ≡ exchangedTree g (object up low n k)
+  objects-below zero k h b = leaf-case k (omega arith)
+  objects-below (suc f) k h b = go (decLe k n) (λ j x y. objects-below f j x y)
     where
-      go : Dec (k ≤ n) → ((j : ℕ) → j ≤ f → j < n + n → leaves (object up′ low′ n j) ≡ order lay (object up low n j)) →
-          leaves (object up′ low′ n k) ≡ order lay (object up low n k)
+      go : Dec (k ≤ n) → ((j : ℕ) → j ≤ f → j < n + n → object up′ low′ n j ≡ exchangedTree g (object up low n j)) →
+          object up′ low′ n k ≡ exchangedTree g (object up low n k)
       go (yes d) r = leaf-case k d
       go (no d) r =
           let e : n + (k - n) ≡ k = omega arith in
           rw e at (fork-case (k - n) (omega arith) (omega arith) (λ j x. r j (omega arith) (omega arith)))
 
+  -- each has the children of each of its rows exchanged
+  pub object-exchanged : (k : ℕ) → k < n + n → object up′ low′ n k ≡ exchangedTree g (object up low n k)
+  object-exchanged k h = objects-below k k (omega arith) h
+
+-- where the layout turns it
+module _ (n : ℕ) (up low up′ low′ : ℕ → ℕ) (lay : List ℕ) (rule : Rule n up low)
+    (entries : (i : ℕ) → 1 ≤ i → i < n → Exchanges (turned (byte lay i)) (up i) (low i) (up′ i) (low′ i)) where
   -- the leaves under an object stand in the layout's order
   pub exchanged-leaves : (k : ℕ) → k < n + n → leaves (object up′ low′ n k) ≡ order lay (object up low n k)
-  exchanged-leaves k h = leaves-below k k (omega arith) h
+  exchanged-leaves k h =
+      ap leaves (object-exchanged n up low up′ low′ (λ i. turned (byte lay i)) rule entries k h)
+      ∙ leaves-laid lay (object up low n k)
 
 -- ---- rows in an array
 

@@ -1,5 +1,6 @@
--- A row array with a layout applied: it keeps the tree rule, and its leaves stand in the layout's order. Exchanging the same rows again
--- takes the layout off, and where rows are turned over in the array and in the layout alike, the tree as given stays.
+-- A row array with a layout applied: it keeps the tree rule, its tree is laid out, and so its leaves stand in the layout's order.
+-- Exchanging the same rows again takes the layout off, and where rows are turned over in the array and in the layout alike, the tree as
+-- given stays.
 use Prim.Native.Nat.{ℕ, pred, _+_, _*_, _≤_, _<_}
 use mathlib.Core.Path.{_≡_, refl, sym, ap, ap₂, _∙_}
 use mathlib.Core.Bool.{Bool, true, false, cond}
@@ -10,7 +11,8 @@ use Rattle.tanglegram.specs.Tree.{Tree, leaves, tree}
 use Rattle.tanglegram.specs.Order.{byte, turned, flip, order}
 use Rattle.work_trees.specs.Rows.{upper, lower, size, objectOf, treeOf, GoodRows}
 use Rattle.work_trees.specs.Exchange.{exchanged, Exchanges, Laid, givenTree, LaidOut}
-use Rattle.work_trees.proofs.Exchanged.{exchanged-rule, exchanged-leaves, exchanged-laid}
+use Rattle.work_trees.proofs.LaidTree.{laidTree, leaves-laid}
+use Rattle.work_trees.proofs.Exchanged.{exchanged-rule, object-exchanged, exchanged-leaves, exchanged-laid}
 use Rattle.work_trees.proofs.Objects.{object-cong}
 
 -- ---- a row array laid out
@@ -32,10 +34,17 @@ module _ (T lay W : List ℕ) (good : GoodRows T) (laid : Laid T lay W) where
       rw (laid .same-size)
       (exchanged-leaves (size T) (upper T) (lower T) (upper W) (lower W) lay (good .rule) (laid .entries) k (omega arith))
 
-  pub laid-tree : leaves (treeOf W) ≡ order lay (treeOf T)
-  laid-tree =
+  -- and its tree is laid out
+  pub tree-laid : treeOf W ≡ laidTree lay (treeOf T)
+  tree-laid =
       let some = good .some in
-      rw (laid .same-size) (rw (laid .same-size) at (laid-object (size T + pred (size T)) (omega arith)))
+      let k = size T + pred (size T) in
+      let turns : ℕ → Bool = λ i. turned (byte lay i) in
+      rw (laid .same-size)
+      (object-exchanged (size T) (upper T) (lower T) (upper W) (lower W) turns (good .rule) (laid .entries) k (omega arith))
+
+  pub laid-tree : leaves (treeOf W) ≡ order lay (treeOf T)
+  laid-tree = ap leaves tree-laid ∙ leaves-laid lay (treeOf T)
 
 -- ---- by exchanging
 
@@ -88,10 +97,13 @@ given-laid T lay W good laid =
     same-tree (exchanged W lay) T (laid-good W lay (exchanged W lay) there off) size-off
     (λ i p q. twice (turned (byte lay i)) _ _ _ _ _ _ (laid .entries i p (rw (← size-off) q)) (off .entries i p (rw (← off .same-size) q)))
 
--- a row array that has a layout applied has its leaves in the layout's order
-pub given-order : (W lay : List ℕ) → GoodRows W → leaves (treeOf W) ≡ order lay (givenTree W lay)
+-- a row array that has a layout applied has the tree as given laid out, and its leaves in the layout's order
+pub given-tree : (W lay : List ℕ) → GoodRows W → treeOf W ≡ laidTree lay (givenTree W lay)
 unfolding givenTree
-given-order W lay good = laid-tree (exchanged W lay) lay W (exchanged-good W lay good) (laid-back W lay good)
+given-tree W lay good = tree-laid (exchanged W lay) lay W (exchanged-good W lay good) (laid-back W lay good)
+
+pub given-order : (W lay : List ℕ) → GoodRows W → leaves (treeOf W) ≡ order lay (givenTree W lay)
+given-order W lay good = ap leaves (given-tree W lay good) ∙ leaves-laid lay (givenTree W lay)
 
 -- a byte x with its row turned over where g, and its entries exchanged where g: the layout taken off gives the same
 either-way : (g t : Bool) (x u l u′ l′ a b a′ b′ : ℕ) → turned x ≡ t → Exchanges g u l u′ l′ → Exchanges (turned x) u l a b →
@@ -145,6 +157,9 @@ laid-out T lay W good long e =
       tree = given-laid T lay W good laid;
     }
 
--- its leaves stand in the layout's order
+-- its tree is the tree as given laid out, and its leaves stand in the layout's order
+pub laid-out-tree : {t : Tree} {n : ℕ} {lay W : List ℕ} → LaidOut t n lay W → treeOf W ≡ laidTree lay t
+laid-out-tree {lay = lay} {W = W} side = given-tree W lay (side .good) ∙ ap (laidTree lay) (side .tree)
+
 pub laid-out-order : {t : Tree} {n : ℕ} {lay W : List ℕ} → LaidOut t n lay W → leaves (treeOf W) ≡ order lay t
-laid-out-order {lay = lay} {W = W} side = given-order W lay (side .good) ∙ ap (order lay) (side .tree)
+laid-out-order {t = t} {lay = lay} side = ap leaves (laid-out-tree side) ∙ leaves-laid lay t

@@ -3,6 +3,7 @@ pub mod Stores
 pub mod Objects
 pub mod Walked
 pub mod ByNumber
+pub mod LaidTree
 pub mod Exchanged
 pub mod LeafCounts
 pub mod Laid
