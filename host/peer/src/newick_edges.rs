@@ -13,8 +13,8 @@ use crate::spelling;
 pub fn all() -> Vec<String> {
     let mut all = deepest_and_largest();
     all.extend(largest_written());
-    all.extend(more_than_is_read());
     all.extend(long_pieces());
+    all.extend(more_than_is_read());
     all.extend(good_texts());
     all.extend(broken_texts());
     all.extend(any_byte());
@@ -124,9 +124,9 @@ fn more_than_is_read() -> Vec<String> {
     calls
 }
 
-/// Leaf numbers and lengths of a thousand digits.
+/// Leaf numbers and lengths of hundreds of digits.
 fn long_pieces() -> Vec<String> {
-    let (zeros, nines) = ("0".repeat(1_000), "9".repeat(1_000));
+    let (zeros, nines) = ("0".repeat(500), "9".repeat(500));
     let texts = [
         format!("(1:{zeros},2:.{nines});"),
         format!("(1:{nines}.{zeros},2):{nines}.;"),
