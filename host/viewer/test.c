@@ -1,7 +1,7 @@
 /* Checks the fifteen calls for C against docs/CALLS.md and docs/NEWICK.md: their examples, every refusal, in the order
  * of tests, the row beside 7 and 8 and none beside another number, numbers wider than 8 and 16 bits, that a refused
- * call changes no byte, and that none writes beyond what it was lent. Numbers are literals, the customer's or worked out
- * by hand. Prints each check that failed; ends with 0 only if none did.
+ * call changes no byte, and that none writes beyond what it was lent. Numbers are literals, the customer's or worked
+ * out by hand. Prints each check that failed; ends with 0 only if none did.
  */
 #include <stdio.h>
 #include <string.h>
