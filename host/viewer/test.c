@@ -1037,12 +1037,46 @@ static void deepest_texts(void)
     text_refused(__LINE__, open + 1, 18);
 }
 
-/* Fills what is left of a text up to an end that stands in it. */
-static uint8_t *fill(uint8_t *from, const uint8_t *to, uint8_t byte)
+/* Adds the leaves from a to b, halved again and again, to a text; answers its new end. */
+static char *add_halves(char *end, unsigned a, unsigned b)
+{
+    if (a == b)
+        return end + sprintf(end, "%u", a);
+    *end++ = '(';
+    end = add_halves(end, a, (a + b) / 2);
+    *end++ = ',';
+    end = add_halves(end, (a + b) / 2 + 1, b);
+    *end++ = ')';
+    return end;
+}
+
+/* 512 leaves, and one more, with no more than ten groups open at once. */
+static void flat_texts(void)
+{
+    static char text[4096];
+    static uint16_t rows[TANGLE_MOST_ROWS], links[512];
+    uint16_t order[512];
+
+    strcpy(add_halves(text, 1, 513), ";");
+    text_refused(__LINE__, text, 19);
+    text[strlen(text) - 1] = ',';
+    text_refused(__LINE__, text, 18);
+
+    strcpy(add_halves(text, 1, 512), ";");
+    check(__LINE__, "n", tangle_newick_read((uint8_t *)text, strlen(text), rows, TANGLE_MOST_ROWS).n, 512);
+    for (uint16_t i = 0; i < 512; i++)
+        links[i] = (uint16_t)(i + 1);
+    record('N', 512, rows, rows, links);
+    check(__LINE__, "refusal", tangle_order(bytes(), r.length, TANGLE_LEFT, order, 512).refusal, 0);
+    check(__LINE__, "the order differs", memcmp(order, links, sizeof links) != 0, 0);
+    write_text(__LINE__, TANGLE_RIGHT, TANGLE_MOST_TEXT, 0, text);
+}
+
+/* Fills a text up to an end with a byte. */
+static void fill(uint8_t *from, const uint8_t *to, uint8_t byte)
 {
     while (from < to)
         *from++ = byte;
-    return from;
 }
 
 static void long_texts(void)
@@ -1203,6 +1237,7 @@ int main(void)
     texts_read();
     texts_refused();
     deepest_texts();
+    flat_texts();
     long_texts();
     texts_written();
     there_and_back();
