@@ -1072,38 +1072,31 @@ static void flat_texts(void)
     write_text(__LINE__, TANGLE_RIGHT, TANGLE_MOST_TEXT, 0, text);
 }
 
-/* Fills a text up to an end with a byte. */
-static void fill(uint8_t *from, const uint8_t *to, uint8_t byte)
-{
-    while (from < to)
-        *from++ = byte;
-}
-
 static void long_texts(void)
 {
     static const uint16_t turned[] = {2, 1};
     static uint8_t text[1 << 20];
-    uint8_t *const end = text + sizeof text;
+    size_t last = sizeof text - 1;
 
+    memset(text, '7', sizeof text);
     memcpy(text, "(2:", 3);
-    fill(text + 3, end, '7');
     memcpy(text + 300000, ",1:.", 4);
     memcpy(text + 600000, "):", 2);
-    memcpy(text + 900000, ".", 1);
-    memcpy(end - 2, ";\n", 2);
+    text[900000] = '.';
+    memcpy(text + last - 1, ";\n", 2);
     read_bytes(__LINE__, text, sizeof text, 2, 0, 2, turned);
     read_bytes(__LINE__, text, sizeof text, 1, 14, 0, NULL);
-    read_bytes(__LINE__, text, sizeof text - 1, 2, 0, 2, turned);
-    read_bytes(__LINE__, text, sizeof text - 2, 2, 18, 0, NULL);
+    read_bytes(__LINE__, text, last, 2, 0, 2, turned);
+    read_bytes(__LINE__, text, last - 1, 2, 18, 0, NULL);
     text[1] = '3';
     read_bytes(__LINE__, text, sizeof text, 2, 19, 0, NULL);
     text[1000000] = '.';
     read_bytes(__LINE__, text, sizeof text, 2, 18, 0, NULL);
-    fill(text, end, '(');
+    memset(text, '(', sizeof text);
     read_bytes(__LINE__, text, sizeof text, 2, 18, 0, NULL);
-    fill(text, end, '1');
+    memset(text, '1', sizeof text);
     read_bytes(__LINE__, text, sizeof text, 2, 18, 0, NULL);
-    end[-1] = ';';
+    text[last] = ';';
     read_bytes(__LINE__, text, sizeof text, 2, 19, 0, NULL);
 }
 
