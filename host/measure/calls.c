@@ -1,7 +1,8 @@
-/* Peak stack of every call (tangle.h) on records of 512 leaves, by a painted stack. A line for each call and record:
- * call, left tree, right tree, layout bytes (0, 1, or 2 for mixed), bytes. The bytes include the few that the harness
- * takes to hand the arguments over. Ends with 1 if a call refuses a good record or accepts one whose last row is bad,
- * if an order is not the one expected, or if two calls that must agree do not. */
+/* Peak stack of every call (tangle.h) on records and texts of 512 leaves, by a painted stack. A line for each call and
+ * record: call, left tree, right tree, layout bytes (0, 1, or 2 for mixed), bytes. For reading a text: call, tree, what
+ * the text is, a dash, bytes. The bytes include the few that the harness takes to hand the arguments over. Ends with 1
+ * if a call refuses a good record or text or accepts one that is bad, if an order, a text or the rows of one are not
+ * those expected, or if two calls that must agree do not. */
 #include <stdio.h>
 
 #include "../viewer/tangle.h"
@@ -9,10 +10,15 @@
 #include "trees.h"
 
 enum { N = TANGLE_MOST_LEAVES, ROWS = N - 1, BYTES = TANGLE_MOST_BYTES, ENTRIES = TANGLE_MOST_HANDS };
+enum { TEXT = TANGLE_MOST_TEXT, LONG_TEXT = 1 << 20 };
 
 static uint8_t made[BYTES], s[BYTES], packed[BYTES], left_layout[ROWS], right_layout[ROWS];
 static uint16_t out[N], first[N], second[N], left[2 * ROWS], right[2 * ROWS], links[N];
 static struct tangle_entry list[ENTRIES];
+static uint8_t written[TEXT];
+static char text[LONG_TEXT + 1];
+static size_t text_length, text_places;
+static uint16_t text_rows[2 * ROWS];
 
 /* What the jobs found: the last refusal's number, and the calls' answers. */
 static struct {
@@ -23,6 +29,8 @@ static struct {
     struct tangle_run ran;
     struct tangle_better better;
     struct tangle_unpack unpacked;
+    struct tangle_newick_read read;
+    struct tangle_newick_write wrote;
 } found;
 
 static void no_job(void) {}
@@ -91,7 +99,22 @@ static void pack(void) {
                                 ROWS, packed, BYTES).refusal;
 }
 
-/* Every call; those with a side once for each, with two orders of that side at hand. */
+static void newick_write_left(void) {
+    found.wrote = tangle_newick_write(s, BYTES, TANGLE_LEFT, written, TEXT);
+    found.refusal = found.wrote.refusal;
+}
+
+static void newick_write_right(void) {
+    found.wrote = tangle_newick_write(s, BYTES, TANGLE_RIGHT, written, TEXT);
+    found.refusal = found.wrote.refusal;
+}
+
+static void newick_read(void) {
+    found.read = tangle_newick_read((const uint8_t *)text, text_length, text_rows, text_places);
+    found.refusal = found.read.refusal;
+}
+
+/* Every call on a record; those with a side once for each, with two orders of that side at hand. */
 static const struct {
     const char *name;
     job_t *job;
@@ -114,6 +137,8 @@ static const struct {
     {"better_check", better_check_right, TANGLE_RIGHT},
     {"unpack", unpack, 0},
     {"pack", pack, 0},
+    {"newick_write", newick_write_left, TANGLE_LEFT},
+    {"newick_write", newick_write_right, TANGLE_RIGHT},
 };
 
 static void put(size_t at, uint16_t x) {
@@ -161,6 +186,16 @@ static int in_order(int falls) {
     return good;
 }
 
+/* Whether the text found is the side's, upper and lower exchanged where a row is turned. */
+static int in_words(uint32_t side) {
+    static char expected[TEXT + 1];
+    uint16_t turned[2 * ROWS];
+    const uint8_t *layout = made + 10 * N + (side == TANGLE_LEFT ? 0 : ROWS);
+    for (size_t i = 0; i < 2 * ROWS; i++) turned[i] = (side == TANGLE_LEFT ? left : right)[i ^ layout[i / 2]];
+    strcpy(spell(expected, turned, N, 2 * N - 1, 0), ";");
+    return found.wrote.length == TEXT && memcmp(written, expected, TEXT) == 0;
+}
+
 static int agree(void) {
     uint32_t crossings = found.count.count;
     return found.pairs.count == crossings && found.freed.before == crossings && found.freed.after <= crossings &&
@@ -191,7 +226,8 @@ static int measure(size_t on_left, size_t on_right, uint8_t layout) {
         int answered = found.refusal == 0;
         if (strcmp(calls[i].name, "order") == 0 && direction != 0 && layout != 2)
             answered &= in_order((direction < 0) != (layout == 1));
-        if (!answered) fprintf(stderr, "%s, %s: refused, or another order\n", calls[i].name, name);
+        if (strcmp(calls[i].name, "newick_write") == 0) answered &= in_words(calls[i].side);
+        if (!answered) fprintf(stderr, "%s, %s: refused, or another answer\n", calls[i].name, name);
         good &= answered;
     }
     if (!agree()) fprintf(stderr, "%s: the calls do not agree\n", name);
@@ -216,10 +252,61 @@ static int measure_bad_row(uint32_t side) {
     return good;
 }
 
+/* What a text is: how many leaves it has, the digits of its lengths, the places lent, what is done to it at its end or
+ * to its first digit, and its refusal. A deep tree over n leaves has n-1 groups open at once. */
+static const struct {
+    const char *name;
+    uint16_t leaves;
+    size_t digits, places;
+    const char *end;
+    char first;
+    uint32_t refusal;
+} kinds[] = {
+    {"read", N, 0, 2 * ROWS, ";", 0, 0},
+    {"long", N, 1021, 2 * ROWS, ";", 0, 0},
+    {"one-more", N + 1, 0, 2 * ROWS, ";", 0, TANGLE_LEAVES},
+    {"no-end", N, 1, 2 * ROWS, "", 0, TANGLE_GRAMMAR},
+    {"no-leaf", N, 0, 2 * ROWS, ";", '0', TANGLE_GRAMMAR},
+    {"bad-leaf", N, 0, 2 * ROWS, ";", '9', TANGLE_LEAVES},
+    {"no-room", N, 0, 2 * ROWS - 1, ";", 0, TANGLE_ROOM},
+};
+
+/* Whether the rows found, spelt, are the text without its lengths. */
+static int same_tree(const uint16_t *rows) {
+    static char expected[TEXT + 1], again[TEXT + 1];
+    if (found.read.n != N) return 0;
+    spell(expected, rows, N, 2 * N - 1, 0);
+    spell(again, text_rows, N, 2 * N - 1, 0);
+    return memcmp(expected, again, TEXT - 1) == 0;
+}
+
+/* Reading texts of one shape: without lengths, with lengths that make it a megabyte, with a leaf more, and bad ones. */
+static int measure_reading(size_t shape) {
+    static uint16_t rows[2 * (ROWS + 1)];
+    int good = 1;
+    for (size_t i = 0; i < sizeof kinds / sizeof *kinds; i++) {
+        uint16_t n = kinds[i].leaves;
+        int deep = shapes[shape].rows == upper_deep || shapes[shape].rows == lower_deep;
+        uint32_t expected = n > N && deep ? TANGLE_GRAMMAR : kinds[i].refusal;
+        shapes[shape].rows(rows, n);
+        strcpy(spell(text, rows, n, (uint16_t)(2 * n - 1), kinds[i].digits), kinds[i].end);
+        if (kinds[i].first != 0) text[strcspn(text, "123456789")] = kinds[i].first;
+        text_length = strlen(text);
+        text_places = kinds[i].places;
+        size_t bytes = bytes_of(newick_read);
+        printf("newick_read %s %s - %zu\n", shapes[shape].name, deep && n > N ? "open-512" : kinds[i].name, bytes);
+        int answered = found.refusal == expected && (expected != 0 || same_tree(rows));
+        if (!answered) fprintf(stderr, "newick_read, %s %s: another answer\n", shapes[shape].name, kinds[i].name);
+        good &= answered;
+    }
+    return good;
+}
+
 int main(void) {
     int good = 1;
     for (size_t i = 0; i < 16; i++)
         for (uint8_t layout = 0; layout <= 2; layout++) good &= measure(i / 4, i % 4, layout);
     good &= measure_bad_row(TANGLE_LEFT) & measure_bad_row(TANGLE_RIGHT);
+    for (size_t i = 0; i < 3; i++) good &= measure_reading(i); /* all but the random one, whose depth is no limit */
     return good ? 0 : 1;
 }

@@ -1,8 +1,9 @@
 #!/usr/bin/env bash
 # Code and constant data of an archive's functions, and whether they fit 64 KiB together with the record and the
 # largest stack: size.sh [NAME], the library whose archive is measured, `tangle` if none is named. Prints the bytes of
-# each part; ends with 1 if they are more than 65,536 together. The stack is the most that host/measure/calls.sh finds.
-# C's functions that the code calls (it names them) are outside, and so is the caller's own code and memory.
+# each part; ends with 1 if they are more than 65,536 together. The stack is the most that host/measure/calls.sh finds
+# for any call, reading a text among them: the device has its record also while it reads one. C's functions that the
+# code calls (it names them) are outside, and so is the caller's own code and memory, lent texts and buffers included.
 . "$(dirname "$0")/../archive.sh"
 x86_tools
 name=${1:-tangle}

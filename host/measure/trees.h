@@ -1,8 +1,12 @@
-/* Rows of trees over n leaves: row i, from 1 on, is rows[2i-2] over rows[2i-1] and makes object n + i. */
+/* Rows of trees over n leaves: row i, from 1 on, is rows[2i-2] over rows[2i-1] and makes object n + i. And a tree as a
+ * Newick text. */
 #ifndef TREES_H
 #define TREES_H
 
+#include <stddef.h>
 #include <stdint.h>
+#include <stdio.h>
+#include <string.h>
 
 typedef void rows_t(uint16_t *rows, uint16_t n);
 
@@ -51,6 +55,24 @@ static inline void joined(uint16_t *rows, uint16_t n) {
         }
         pool[n - i - 1] = (uint16_t)(n + i);
     }
+}
+
+/* Adds an object of a tree to a text, with a length of so many digits after every subtree, or without lengths if these
+ * are 0; answers the text's new end. */
+static char *spell(char *end, const uint16_t *rows, uint16_t n, uint16_t object, size_t digits) {
+    if (object <= n) {
+        end += sprintf(end, "%u", (unsigned)object);
+    } else {
+        *end++ = '(';
+        end = spell(end, rows, n, rows[2 * (object - n) - 2], digits);
+        *end++ = ',';
+        end = spell(end, rows, n, rows[2 * (object - n) - 1], digits);
+        *end++ = ')';
+    }
+    if (digits == 0) return end;
+    *end++ = ':';
+    memset(end, '7', digits);
+    return end + digits;
 }
 
 #endif

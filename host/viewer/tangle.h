@@ -1,4 +1,4 @@
-/* The comparison table's calls for C: all thirteen (crates/tangle, target/staticlib/libtangle.a, which `rt staticlib
+/* The comparison table's calls for C: all fifteen (crates/tangle, target/staticlib/libtangle.a, which `rt staticlib
  * tangle` writes).
  *
  * Memory is lent for the length of a call, as a pointer and how many bytes, places or entries are there; any bytes and
@@ -10,7 +10,7 @@
  * failed, in the order given with the call. The second is the row: beside 7 and 8 the lowest row, 1 to n-1, of the left
  * or the right tree that breaks the tree rule, and 0 beside every other number. A refused call answers zero for every
  * number after these two and changes no byte. One that is not refused changes what is said with the call, and no other
- * byte. docs/CALLS.md explains the words used here, and docs/RECORD.md the record's bytes.
+ * byte. docs/CALLS.md explains the words used here, docs/RECORD.md the record's bytes, and docs/NEWICK.md the texts.
  *
  * Sides, letters, n and allowances are 32 bits wide, and each is tested as it is: side 257 and side 65,537 are refused.
  *
@@ -46,7 +46,9 @@ enum tangle_number {
     TANGLE_ROOM = 14,      /* an output buffer has too few places */
     TANGLE_ROW = 15,       /* the row is 0 or above n-1 */
     TANGLE_ORDER = 16,     /* a proposed order has fewer than n entries, or its first n aren't a compatible order */
-    TANGLE_HANDS = 17      /* the hand list is longer than 1,024 */
+    TANGLE_HANDS = 17,     /* the hand list is longer than 1,024 */
+    TANGLE_GRAMMAR = 18,   /* a text breaks the grammar of docs/NEWICK.md */
+    TANGLE_LEAVES = 19     /* a text's leaves aren't 1 to n once each, or n is above 512 */
 };
 
 enum tangle_side { TANGLE_LEFT = 1, TANGLE_RIGHT = 2 };
@@ -57,12 +59,15 @@ enum tangle_which { TANGLE_FIRST = 1, TANGLE_SECOND = 2 };
 /* Hold letters: nothing is held, the left is, the right is, both are. */
 enum tangle_letter { TANGLE_HOLD_NONE = 'N', TANGLE_HOLD_LEFT = 'L', TANGLE_HOLD_RIGHT = 'R', TANGLE_HOLD_BOTH = 'B' };
 
-/* The most leaves; the longest record, in bytes; the largest allowance of a run; the most entries of a hand list. */
+/* The most leaves; the longest record, in bytes; the largest allowance of a run; the most entries of a hand list; the
+ * most places of the rows read; the most bytes of a written text. The last two are what a caller lends. */
 enum tangle_limit {
     TANGLE_MOST_LEAVES = 512,
     TANGLE_MOST_BYTES = 6142,
     TANGLE_MOST_TURNS = 130818,
-    TANGLE_MOST_HANDS = 1024
+    TANGLE_MOST_HANDS = 1024,
+    TANGLE_MOST_ROWS = 1022,
+    TANGLE_MOST_TEXT = 2962
 };
 
 /* ---- answers; each begins with the refusal and its row */
@@ -116,6 +121,18 @@ struct tangle_unpack {
     uint32_t row;
     uint32_t hold; /* one of the four letters */
     uint32_t n;
+};
+
+struct tangle_newick_read {
+    uint32_t refusal;
+    uint32_t row; /* always 0: a text has no bad row */
+    uint32_t n;
+};
+
+struct tangle_newick_write {
+    uint32_t refusal;
+    uint32_t row;
+    uint32_t length; /* of the text, in bytes */
 };
 
 /* An entry of a hand list: the row of that side is turned over. */
@@ -205,6 +222,21 @@ struct tangle_unpack tangle_unpack(const uint8_t *record, size_t length, uint16_
                                    uint16_t *right_rows, size_t right_places, uint16_t *links, size_t links_places,
                                    uint8_t *left_layout, size_t left_layout_places, uint8_t *right_layout,
                                    size_t right_layout_places);
+
+/* ---- Newick text, in and out; a text is bytes, with no zero byte at its end */
+
+/* Reads a tree from a text of any length: answers n, and writes its rows, 2(n-1) numbers, upper then lower, row after
+ * row, to the first of the buffer's places, and nothing beyond them. Rows are numbered in the order in which groups
+ * close; lengths are read and dropped. TANGLE_MOST_ROWS places are enough for any text.
+ * Refused: 18 over the whole text, then 19, then 14 if there are fewer than 2(n-1) places. */
+struct tangle_newick_read tangle_newick_read(const uint8_t *text, size_t length, uint16_t *rows, size_t places);
+
+/* Writes a side's present layout as a text without lengths, which ends with its semicolon: answers how many bytes it
+ * has, and writes them to the first of the buffer's places, and nothing beyond them. Reads the record; a hold is no
+ * matter. TANGLE_MOST_TEXT places are enough for any record.
+ * Refused: 13, then 1 to 10, then 14 if there are fewer places than the text has bytes. */
+struct tangle_newick_write tangle_newick_write(const uint8_t *record, size_t length, uint32_t side, uint8_t *text,
+                                               size_t places);
 
 #ifdef __cplusplus
 }

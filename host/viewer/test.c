@@ -1,7 +1,7 @@
-/* Checks the thirteen calls for C against docs/CALLS.md: its examples, every refusal, in the order of tests, the row
- * beside 7 and 8 and none beside another number, numbers wider than 8 and 16 bits, that a refused call changes no byte,
- * and that none writes beyond what it was lent. Numbers are literals, the customer's or worked out by hand. Prints each
- * check that failed; ends with 0 only if none did.
+/* Checks the fifteen calls for C against docs/CALLS.md and docs/NEWICK.md: their examples, every refusal, in the order
+ * of tests, the row beside 7 and 8 and none beside another number, numbers wider than 8 and 16 bits, that a refused
+ * call changes no byte, and that none writes beyond what it was lent. Numbers are literals, the customer's or worked
+ * out by hand. Prints each check that failed; ends with 0 only if none did.
  */
 #include <stdio.h>
 #include <string.h>
@@ -16,17 +16,21 @@ _Static_assert(sizeof(struct tangle_better) == 16 && offsetof(struct tangle_bett
 _Static_assert(sizeof(struct tangle_unpack) == 16 && offsetof(struct tangle_unpack, row) == 4, "four");
 _Static_assert(sizeof(struct tangle_entanglement) == 32 && offsetof(struct tangle_entanglement, row) == 4, "five");
 _Static_assert(offsetof(struct tangle_entanglement, ratio) == 24, "the double is last, after 4 bytes of padding");
+_Static_assert(sizeof(struct tangle_newick_read) == 12 && offsetof(struct tangle_newick_read, row) == 4, "three");
+_Static_assert(sizeof(struct tangle_newick_write) == 12 && offsetof(struct tangle_newick_write, row) == 4, "three");
 _Static_assert(sizeof(struct tangle_entry) == 8 && offsetof(struct tangle_entry, row) == 4, "two numbers of 32 bits");
 _Static_assert(TANGLE_ACCEPTED == 0 && TANGLE_SHORT == 1 && TANGLE_MARK == 2 && TANGLE_VERSION == 3, "docs/CALLS.md");
 _Static_assert(TANGLE_HOLD == 4 && TANGLE_SIZE == 5 && TANGLE_LENGTH == 6 && TANGLE_LEFT_ROW == 7, "docs/CALLS.md");
 _Static_assert(TANGLE_RIGHT_ROW == 8 && TANGLE_LINKS == 9 && TANGLE_LAYOUT == 10, "docs/CALLS.md");
 _Static_assert(TANGLE_HELD == 11 && TANGLE_ALLOWANCE == 12 && TANGLE_SIDE == 13, "docs/CALLS.md");
 _Static_assert(TANGLE_ROOM == 14 && TANGLE_ROW == 15 && TANGLE_ORDER == 16 && TANGLE_HANDS == 17, "docs/CALLS.md");
+_Static_assert(TANGLE_GRAMMAR == 18 && TANGLE_LEAVES == 19, "docs/CALLS.md");
 _Static_assert(TANGLE_LEFT == 1 && TANGLE_RIGHT == 2 && TANGLE_FIRST == 1 && TANGLE_SECOND == 2, "docs/CALLS.md");
 _Static_assert(TANGLE_HOLD_NONE == 78 && TANGLE_HOLD_LEFT == 76, "ASCII");
 _Static_assert(TANGLE_HOLD_RIGHT == 82 && TANGLE_HOLD_BOTH == 66, "ASCII");
 _Static_assert(TANGLE_MOST_LEAVES == 512 && TANGLE_MOST_BYTES == 6142, "docs/RECORD.md");
 _Static_assert(TANGLE_MOST_TURNS == 130818 && TANGLE_MOST_HANDS == 1024, "docs/CALLS.md");
+_Static_assert(TANGLE_MOST_ROWS == 1022 && TANGLE_MOST_TEXT == 2962, "docs/NEWICK.md");
 
 /* Room for n = 513, and fences before and after what is lent. */
 enum { MOST = 12 * 513 - 2, FENCE = 16 };
@@ -376,6 +380,51 @@ static void pack(int line, size_t n, uint32_t hold, uint32_t size, int longer, s
           memcmp(made.room, refusal == 0 ? r.room : clean.room, sizeof made.room) != 0, 0);
 }
 
+/* ---- Newick text */
+
+/* Reads so many bytes as a text, into so many places: the refusal, n and the rows, none where it is refused. */
+static void read_bytes(int line, const uint8_t *text, size_t length, size_t lent, uint32_t refusal, uint32_t n,
+                       const uint16_t *rows)
+{
+    static struct buffer out;
+    struct tangle_newick_read a;
+
+    clear(&out);
+    a = tangle_newick_read(text, length, places(&out), lent);
+    told(line, a.refusal, a.row, refusal);
+    check(line, "n", a.n, n);
+    contains(line, &out, rows, n == 0 ? 0 : 2 * (n - 1) * sizeof *rows);
+}
+
+static void read_text(int line, const char *text, size_t lent, uint32_t refusal, uint32_t n, const uint16_t *rows)
+{
+    read_bytes(line, (const uint8_t *)text, strlen(text), lent, refusal, n, rows);
+}
+
+/* A text that is refused, whatever room there is. */
+static void text_refused(int line, const char *text, uint32_t refusal)
+{
+    read_text(line, text, MOST_PLACES, refusal, 0, NULL);
+    read_text(line, text, 0, refusal, 0, NULL);
+}
+
+/* Writes a side as a text, into so many places; empty where it is refused. */
+static void write_text(int line, uint32_t side, size_t lent, uint32_t refusal, const char *text)
+{
+    static struct record out, expected;
+    struct tangle_newick_write a;
+
+    kept = r;
+    memset(&out, 0xa5, sizeof out);
+    memset(&expected, 0xa5, sizeof expected);
+    memcpy(expected.room + FENCE, text, strlen(text));
+    a = tangle_newick_write(bytes(), r.length, side, out.room + FENCE, lent);
+    told(line, a.refusal, a.row, refusal);
+    check(line, "length", a.length, (double)strlen(text));
+    check(line, "a byte of a text differs", memcmp(out.room, expected.room, sizeof out.room) != 0, 0);
+    same_bytes(line, &kept);
+}
+
 /* A record that every call refuses by one number. */
 static void refused(int line, uint32_t number)
 {
@@ -389,6 +438,8 @@ static void refused(int line, uint32_t number)
     free_side(line, TANGLE_LEFT, number, 0, 0);
     run(line, 2, number, 0, 0, 0, 0);
     hands(line, 0, number);
+    write_text(line, TANGLE_LEFT, MOST, number, "");
+    write_text(line, TANGLE_RIGHT, 0, number, "");
 }
 
 /* A record that every call refuses by 7 or 8, with this row. */
@@ -659,7 +710,9 @@ static void longer_than_16_bits(void)
 {
     static uint8_t s[65536 + 46];
     static struct tangle_entry many[65536];
+    static uint16_t rows[65536 + 1];
     uint16_t four[] = {4, 3, 1, 2};
+    uint8_t text[14] = {0};
     int changed = 0;
 
     case2('N');
@@ -676,11 +729,19 @@ static void longer_than_16_bits(void)
     check(__LINE__, "entanglement's refusal", tangle_entanglement(s, sizeof s).refusal, 6);
     check(__LINE__, "a hand list's refusal", tangle_hands(s, sizeof s, many, 0).refusal, 6);
     check(__LINE__, "a hand list's refusal", tangle_hands(s, 46, many, 65536).refusal, 17);
+    check(__LINE__, "writing's refusal", tangle_newick_write(s, sizeof s, TANGLE_LEFT, text, 14).refusal, 6);
     check(__LINE__, "a byte of the record changed", memcmp(s, bytes(), r.length) != 0, 0);
     check(__LINE__, "the buffer changed", four[0] == 4 && four[1] == 3 && four[2] == 1 && four[3] == 2, 1);
     for (size_t i = r.length; i < sizeof s; i++)
         changed |= s[i];
     check(__LINE__, "a byte after it changed", changed, 0);
+
+    /* a text and room for one, the same way */
+    check(__LINE__, "length", tangle_newick_write(bytes(), r.length, TANGLE_LEFT, s, 65536 + 1).length, 14);
+    check(__LINE__, "the text differs", memcmp(s, "(4,(3,(1,2)));", 14) != 0, 0);
+    check(__LINE__, "n", tangle_newick_read(s, 14, rows, 65536 + 1).n, 4);
+    check(__LINE__, "the rows differ", memcmp(rows, caterpillar, sizeof caterpillar) != 0 || rows[6] != 0, 0);
+    check(__LINE__, "reading's refusal", tangle_newick_read(s, 65536 + 14, rows, 6).refusal, 18);
 }
 
 static void arguments_refused(void)
@@ -880,6 +941,243 @@ static void parts_refused(void)
     pack(__LINE__, 1, 'R', 1, 0, 10, 0);
 }
 
+/* ---- texts read and written */
+
+static void texts_read(void)
+{
+    static const uint16_t two[] = {1, 2}, turned[] = {2, 1}, pairs[] = {4, 3, 2, 1, 5, 6};
+    static const char *const one[] = {"1;", "1;\n", "1:5.;", "1:.5;", "1:007;", "1:0.0;\n",
+                                      "1:99999999999999999999999999999999;"};
+
+    for (size_t i = 0; i < sizeof one / sizeof *one; i++) {
+        read_text(__LINE__, one[i], 0, 0, 1, NULL);
+        read_text(__LINE__, one[i], MOST_PLACES, 0, 1, NULL);
+    }
+    read_text(__LINE__, "(1,2);", 2, 0, 2, two);
+    read_text(__LINE__, "(2:1,1:.0):3.;\n", 2, 0, 2, turned);
+    read_text(__LINE__, "(4,(3,(1,2)));", 6, 0, 4, caterpillar);
+    read_text(__LINE__, "(4:1,(3:.5,(1:5.,2:007):0):12.50):3;", 7, 0, 4, caterpillar);
+    read_text(__LINE__, "((1,2),(3,4));", MOST_PLACES, 0, 4, balanced);
+    read_text(__LINE__, "((4,3),(2,1));", 6, 0, 4, pairs); /* rows in the order in which groups close */
+
+    /* the room comes last */
+    read_text(__LINE__, "(1,2);", 0, 14, 0, NULL);
+    read_text(__LINE__, "(1,2);", 1, 14, 0, NULL);
+    read_text(__LINE__, "(4,(3,(1,2)));", 5, 14, 0, NULL);
+
+    /* what stands after the text is not looked at */
+    read_bytes(__LINE__, (const uint8_t *)"(1,2);;", 6, 2, 0, 2, two);
+    read_bytes(__LINE__, (const uint8_t *)"(1,2);", 5, 2, 18, 0, NULL);
+    read_bytes(__LINE__, (const uint8_t *)"1;", 0, 2, 18, 0, NULL);
+    read_bytes(__LINE__, (const uint8_t *)"1;", 3, 2, 18, 0, NULL); /* a zero byte is no line feed */
+}
+
+static void texts_refused(void)
+{
+    static const char *const broken[] = {
+        "", ";", "1", "0;", "01;", "(0,1);", "(1,02);", "a;", "'1';", "1;;", "1;\n\n", "1;\r\n", "1;\r", "1; ", " 1;",
+        "(1, 2);", "(1,2) ;", "(1,2)", "(1,2;", "1,2;", "1,2);", "(1,2));", "((1,2);", "();", "(1);", "(,1);", "(1,);",
+        "(1,2,3);", "((1,2),(3,4),5);", "(1,2)3;", "(1,2)95:1;", "(1,2)root;", "[x](1,2);", "1:;", "1:.;", "1:1.2.3;",
+        "1:-1;", "1:+1;", "1:1e5;", "1:1:1;", ":1;", "(1:,2);", "(1,2):;", "(1,2):1:2;", "1.5;", "(1;2);", "\xb1;"};
+    static const char *const leaves[] = {
+        "2;", "10;", "512;", "(1,1);", "(2,2);", "(1,3);", "(2,3);", "((1,2),2);", "(257,2);", "(65537,2);",
+        "(1,4294967298);", "(18446744073709551617,2);", "340282366920938463463374607431768211457;",
+        "(1,999999999999999999999999999999);"};
+    static const char *const both[] = {"2", "2;;", "(1,1;", "(1,1));", "((1,1),2", "(7,(7,7):.);",
+                                       "(999999999999999999999999999999,1) ;"};
+
+    for (size_t i = 0; i < sizeof broken / sizeof *broken; i++)
+        text_refused(__LINE__, broken[i], 18);
+    for (size_t i = 0; i < sizeof leaves / sizeof *leaves; i++)
+        text_refused(__LINE__, leaves[i], 19);
+    for (size_t i = 0; i < sizeof both / sizeof *both; i++) /* the grammar over the whole text, then the leaves */
+        text_refused(__LINE__, both[i], 18);
+}
+
+/* A text over n leaves with n-1 groups open at once, the deep one first or second; the leaves are 1 to n, or all 1. */
+static const char *deep_text(unsigned n, int second, int ones)
+{
+    static char text[4096];
+    char *end = text;
+
+    for (unsigned i = 1; !second && i < n; i++)
+        *end++ = '(';
+    for (unsigned a = 1; a <= n; a++) {
+        const char *before = second && a < n ? "(" : "", *after = second ? a < n ? "," : "" : a == 1 ? "" : ")";
+        end += sprintf(end, "%s%s%u%s", before, !second && a > 1 ? "," : "", ones ? 1 : a, after);
+    }
+    for (unsigned i = 1; second && i < n; i++)
+        *end++ = ')';
+    strcpy(end, ";");
+    return text;
+}
+
+static void deepest_texts(void)
+{
+    static uint16_t first[1022], second[1022];
+    static char open[513];
+
+    for (uint16_t i = 1; i < 512; i++) {
+        first[2 * i - 2] = i == 1 ? 1 : (uint16_t)(511 + i);
+        first[2 * i - 1] = (uint16_t)(i + 1);
+        second[2 * i - 2] = (uint16_t)(512 - i);
+        second[2 * i - 1] = i == 1 ? 512 : (uint16_t)(511 + i);
+    }
+    read_text(__LINE__, deep_text(512, 0, 0), TANGLE_MOST_ROWS, 0, 512, first);
+    read_text(__LINE__, deep_text(512, 0, 0), MOST_PLACES, 0, 512, first);
+    read_text(__LINE__, deep_text(512, 0, 0), TANGLE_MOST_ROWS - 1, 14, 0, NULL);
+    read_text(__LINE__, deep_text(512, 1, 0), TANGLE_MOST_ROWS, 0, 512, second);
+    for (int deep = 0; deep <= 1; deep++) { /* 511 groups open, then 512 */
+        text_refused(__LINE__, deep_text(512, deep, 1), 19);
+        text_refused(__LINE__, deep_text(513, deep, 1), 18);
+        text_refused(__LINE__, deep_text(513, deep, 0), 18);
+    }
+    memset(open, '(', 512);
+    text_refused(__LINE__, open, 18);
+    text_refused(__LINE__, open + 1, 18);
+}
+
+/* Adds the leaves from a to b, halved again and again, to a text; answers its new end. */
+static char *add_halves(char *end, unsigned a, unsigned b)
+{
+    if (a == b)
+        return end + sprintf(end, "%u", a);
+    *end++ = '(';
+    end = add_halves(end, a, (a + b) / 2);
+    *end++ = ',';
+    end = add_halves(end, (a + b) / 2 + 1, b);
+    *end++ = ')';
+    return end;
+}
+
+/* 512 leaves, and one more, with no more than ten groups open at once. */
+static void flat_texts(void)
+{
+    static char text[4096];
+    static uint16_t rows[TANGLE_MOST_ROWS], links[512];
+    uint16_t order[512];
+
+    strcpy(add_halves(text, 1, 513), ";");
+    text_refused(__LINE__, text, 19);
+    text[strlen(text) - 1] = ',';
+    text_refused(__LINE__, text, 18);
+
+    strcpy(add_halves(text, 1, 512), ";");
+    check(__LINE__, "n", tangle_newick_read((uint8_t *)text, strlen(text), rows, TANGLE_MOST_ROWS).n, 512);
+    for (uint16_t i = 0; i < 512; i++)
+        links[i] = (uint16_t)(i + 1);
+    record('N', 512, rows, rows, links);
+    check(__LINE__, "refusal", tangle_order(bytes(), r.length, TANGLE_LEFT, order, 512).refusal, 0);
+    check(__LINE__, "the order differs", memcmp(order, links, sizeof links) != 0, 0);
+    write_text(__LINE__, TANGLE_RIGHT, TANGLE_MOST_TEXT, 0, text);
+}
+
+static void long_texts(void)
+{
+    static const uint16_t turned[] = {2, 1};
+    static uint8_t text[1 << 20];
+    size_t last = sizeof text - 1;
+
+    memset(text, '7', sizeof text);
+    memcpy(text, "(2:", 3);
+    memcpy(text + 300000, ",1:.", 4);
+    memcpy(text + 600000, "):", 2);
+    text[900000] = '.';
+    memcpy(text + last - 1, ";\n", 2);
+    read_bytes(__LINE__, text, sizeof text, 2, 0, 2, turned);
+    read_bytes(__LINE__, text, sizeof text, 1, 14, 0, NULL);
+    read_bytes(__LINE__, text, last, 2, 0, 2, turned);
+    read_bytes(__LINE__, text, last - 1, 2, 18, 0, NULL);
+    text[1] = '3';
+    read_bytes(__LINE__, text, sizeof text, 2, 19, 0, NULL);
+    text[1000000] = '.';
+    read_bytes(__LINE__, text, sizeof text, 2, 18, 0, NULL);
+    memset(text, '(', sizeof text);
+    read_bytes(__LINE__, text, sizeof text, 2, 18, 0, NULL);
+    memset(text, '1', sizeof text);
+    read_bytes(__LINE__, text, sizeof text, 2, 18, 0, NULL);
+    text[last] = ';';
+    read_bytes(__LINE__, text, sizeof text, 2, 19, 0, NULL);
+}
+
+static void texts_written(void)
+{
+    static const uint16_t pair[] = {2, 1};
+
+    case2('N');
+    write_text(__LINE__, TANGLE_LEFT, 14, 0, "(4,(3,(1,2)));");
+    write_text(__LINE__, TANGLE_RIGHT, 15, 0, "((1,2),(3,4));");
+    write_text(__LINE__, TANGLE_LEFT, MOST, 0, "(4,(3,(1,2)));");
+    write_text(__LINE__, TANGLE_LEFT, 13, 14, "");
+    write_text(__LINE__, TANGLE_RIGHT, 0, 14, "");
+    case2('B'); /* a hold is no matter */
+    bytes()[40] = bytes()[42] = bytes()[44] = 1;
+    write_text(__LINE__, TANGLE_LEFT, 14, 0, "((3,(2,1)),4);");
+    write_text(__LINE__, TANGLE_RIGHT, 14, 0, "((1,2),(4,3));");
+    record('L', 1, NULL, NULL, identity);
+    write_text(__LINE__, TANGLE_LEFT, 2, 0, "1;");
+    write_text(__LINE__, TANGLE_RIGHT, 3, 0, "1;");
+    write_text(__LINE__, TANGLE_RIGHT, 1, 14, "");
+    record('R', 2, pair, pair, identity);
+    write_text(__LINE__, TANGLE_RIGHT, 6, 0, "(2,1);");
+    bytes()[r.length - 1] = 1;
+    write_text(__LINE__, TANGLE_RIGHT, 6, 0, "(1,2);");
+
+    /* the side, then the record, then the room */
+    write_text(__LINE__, 0, 0, 13, "");
+    write_text(__LINE__, 3, MOST, 13, "");
+    bytes()[r.length - 1] = 2;
+    write_text(__LINE__, 3, 0, 13, "");
+    write_text(__LINE__, TANGLE_LEFT, 0, 10, "");
+    deep(512, 0);
+    write_text(__LINE__, TANGLE_LEFT, TANGLE_MOST_TEXT, 0, deep_text(512, 0, 0));
+    write_text(__LINE__, TANGLE_RIGHT, MOST, 0, deep_text(512, 0, 0));
+    write_text(__LINE__, TANGLE_LEFT, TANGLE_MOST_TEXT - 1, 14, "");
+}
+
+/* The places, first to last, that the leaves under each row of the left have in an order of 512: one mark for each row
+ * at [first][last]. */
+static void mark_rows(uint8_t (*marks)[512], const uint16_t *rows, const uint16_t *leaves)
+{
+    static uint16_t first[1024], last[1024];
+
+    for (uint16_t i = 0; i < 512; i++)
+        first[leaves[i]] = last[leaves[i]] = i;
+    for (size_t i = 0; i < 511; i++) {
+        uint16_t u = rows[2 * i], l = rows[2 * i + 1];
+        first[513 + i] = first[u] < first[l] ? first[u] : first[l];
+        last[513 + i] = last[u] > last[l] ? last[u] : last[l];
+        marks[first[513 + i]][last[513 + i]]++;
+    }
+}
+
+/* What was written is read as a tree of the same order and the same sets, and written again as the same text. */
+static void there_and_back(void)
+{
+    static uint8_t text[TANGLE_MOST_TEXT], again[TANGLE_MOST_TEXT], before[512][512], after[512][512];
+    static uint16_t rows[TANGLE_MOST_ROWS], leaves[512], same[512];
+    struct tangle_newick_read a;
+
+    deep(512, 0);
+    for (size_t i = 0; i < 511; i++)
+        bytes()[5120 + i] = i % 3 == 1 || i % 7 == 2;
+    unpack(512, 0);
+    check(__LINE__, "refusal", tangle_order(bytes(), r.length, TANGLE_LEFT, leaves, 512).refusal, 0);
+    mark_rows(before, places(&parts.left), leaves);
+    check(__LINE__, "length", tangle_newick_write(bytes(), r.length, TANGLE_LEFT, text, sizeof text).length, 2962);
+    a = tangle_newick_read(text, sizeof text, rows, TANGLE_MOST_ROWS);
+    told(__LINE__, a.refusal, a.row, 0);
+    check(__LINE__, "n", a.n, 512);
+    record('N', 512, rows, rows, leaves);
+    checked(__LINE__, 0);
+    check(__LINE__, "refusal", tangle_order(bytes(), r.length, TANGLE_LEFT, same, 512).refusal, 0);
+    check(__LINE__, "the order differs", memcmp(leaves, same, sizeof same) != 0, 0);
+    mark_rows(after, rows, leaves);
+    check(__LINE__, "the sets differ", memcmp(before, after, sizeof after) != 0, 0);
+    check(__LINE__, "length", tangle_newick_write(bytes(), r.length, TANGLE_RIGHT, again, sizeof again).length, 2962);
+    check(__LINE__, "the text differs", memcmp(text, again, sizeof again) != 0, 0);
+}
+
 /* ---- numbers whose low 8 or 16 bits would be accepted */
 
 static void wide_numbers(void)
@@ -891,11 +1189,13 @@ static void wide_numbers(void)
 
     case2('N');
     for (size_t i = 0; i < 5; i++) {
+        write_text(__LINE__, no_left[i], MOST, 13, "");
         order(__LINE__, no_left[i], 4, 13, "");
         free_side(__LINE__, no_left[i], 13, 0, 0);
         better(__LINE__, no_left[i], "4312", "1234", 13, 0);
     }
     for (size_t i = 0; i < 3; i++) {
+        write_text(__LINE__, no_right[i], MOST, 13, "");
         order(__LINE__, no_right[i], 4, 13, "");
         free_side(__LINE__, no_right[i], 13, 0, 0);
         better(__LINE__, no_right[i], "4312", "1234", 13, 0);
@@ -927,6 +1227,13 @@ int main(void)
     better_of_two();
     parts_of_case2();
     parts_refused();
+    texts_read();
+    texts_refused();
+    deepest_texts();
+    flat_texts();
+    long_texts();
+    texts_written();
+    there_and_back();
     wide_numbers();
     printf("test: %u checks, %u failed\n", checks, failures);
     return failures == 0 && checks != 0 ? 0 : 1;

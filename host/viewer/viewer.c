@@ -41,6 +41,8 @@ static const char *words(uint32_t refusal)
     case TANGLE_ROW: return "row 0 or above n-1";
     case TANGLE_ORDER: return "an order has fewer than n entries, or its first n aren't a compatible order";
     case TANGLE_HANDS: return "a hand list is longer than 1,024";
+    case TANGLE_GRAMMAR: return "a text breaks the grammar";
+    case TANGLE_LEAVES: return "a text's leaves aren't 1 to n once each, or n is above 512";
     default: return "a refusal without words";
     }
 }

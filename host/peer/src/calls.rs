@@ -11,6 +11,7 @@ use crate::lines;
 use crate::made::{self, Made};
 use crate::malformed;
 use crate::random::Random;
+use crate::spelling;
 
 /// Writes so many lines.
 pub fn write(seed: u64, count: u64, out: &mut impl Write) -> io::Result<()> {
@@ -52,7 +53,7 @@ fn any_size(random: &mut Random) -> usize {
 fn any_call(random: &mut Random) -> String {
     let made = made::any_record(any_size(random), random);
     let record = faults::any_bytes(&made, random);
-    match random.below(100) {
+    match random.below(111) {
         0..=4 => lines::plain("check", &record),
         5..=13 => {
             let side = any_side(random);
@@ -68,7 +69,9 @@ fn any_call(random: &mut Random) -> String {
         78..=84 => any_better("better_check", &made, &record, random),
         85..=88 => lines::hold(&record, any_letter(random)),
         89..=94 => any_pack(made, random),
-        _ => any_unpack(&made, &record, random),
+        95..=99 => any_unpack(&made, &record, random),
+        100..=106 => any_newick_read(&made, random),
+        _ => any_newick_write(&made, &record, random),
     }
 }
 
@@ -270,6 +273,44 @@ fn any_unpack(made: &Made, record: &[u8], random: &mut Random) -> String {
     lines::unpack(record, &numbers, &layouts)
 }
 
+/// A side as a text: as it is written, with lengths, or spoilt in one way or two.
+fn any_text(made: &Made, random: &mut Random) -> Vec<u8> {
+    let side = 1 + random.below(2) as u16;
+    let mut pieces = spelling::tree(made.rows(side), made.layout(side));
+    if random.chance(600) {
+        spelling::add_lengths(&mut pieces, random.pick(&[100, 500, 1000]), random);
+    }
+    let kind = random.below(100);
+    match kind {
+        0..=14 | 45 => spelling::change_a_leaf(&mut pieces, random),
+        15..=24 => spelling::damage_a_piece(&mut pieces, random),
+        25..=29 => spelling::add_no_length(&mut pieces, random),
+        _ => {}
+    }
+    let mut text = pieces.concat();
+    match kind {
+        30..=41 | 45 => spelling::damage_a_byte(&mut text, random),
+        42 => text.truncate(random.below(text.len())),
+        43 => drop(text.drain(..random.below(text.len()))),
+        44 => text.extend(random.pick(&[&b" "[..], b"\n\n", b"\r\n", b"\r", b"1;", b";", b"\0"])),
+        46..=60 => text.push(b'\n'),
+        _ => {}
+    }
+    text
+}
+
+fn any_newick_read(made: &Made, random: &mut Random) -> String {
+    let text = any_text(made, random);
+    lines::newick_read(&text, &any_buffer(2 * (made.n as usize - 1), random))
+}
+
+fn any_newick_write(made: &Made, record: &[u8], random: &mut Random) -> String {
+    let side = any_side(random);
+    let length = spelling::tree(made.rows(1), made.layout(1)).concat().len();
+    let places = any_places(length, random);
+    lines::newick_write(record, side, &rubbish_bytes(places, random))
+}
+
 #[cfg(test)]
 mod tests {
     use super::*;
@@ -279,11 +320,11 @@ mod tests {
     fn a_seed_gives_the_same_lines() {
         let mut one = Vec::new();
         let mut two = Vec::new();
-        write(5, 4000, &mut one).unwrap();
-        write(5, 4000, &mut two).unwrap();
+        write(5, 8000, &mut one).unwrap();
+        write(5, 8000, &mut two).unwrap();
         assert!(one == two);
         let lines: Vec<&[u8]> = one.split(|&byte| byte == b'\n').collect();
-        assert_eq!(lines.len(), 4001);
+        assert_eq!(lines.len(), 8001);
         assert!(lines.iter().all(|line| line.len() <= 100_000));
     }
 

@@ -3,6 +3,7 @@
 // At most 1,048,576 bytes are read, and a line that does not end within them gets no answer.
 
 use crate::firmware;
+use crate::newick;
 use crate::record::{self, Buffers, Parts};
 use crate::refusals::{told, Refusal};
 
@@ -23,6 +24,8 @@ pub enum Call {
     Hold(Vec<u8>, u8),
     Pack(u8, u16, [Vec<u16>; 3], [Vec<u8>; 2], Vec<u8>),
     Unpack(Vec<u8>, [Vec<u16>; 3], [Vec<u8>; 2]),
+    NewickRead(Vec<u8>, Vec<u16>),
+    NewickWrite(Vec<u8>, u16, Vec<u8>),
 }
 
 /// One or more digits making a number that is not above the most; nothing wraps.
@@ -117,6 +120,8 @@ pub fn call(line: &[u8]) -> Option<Call> {
         (b"unpack", &[a, l, r, p, x, y]) => {
             Call::Unpack(bytes(a)?, [list(l)?, list(r)?, list(p)?], [bytes(x)?, bytes(y)?])
         }
+        (b"newick_read", &[t, o]) => Call::NewickRead(bytes(t)?, list(o)?),
+        (b"newick_write", &[a, s, o]) => Call::NewickWrite(bytes(a)?, short(s)?, bytes(o)?),
         _ => return None,
     })
 }
@@ -205,6 +210,16 @@ fn unpack_answer(record: &[u8], numbers: [Vec<u16>; 3], layouts: [Vec<u8>; 2]) -
     format!("{} {hold} {n} {lists} {layouts}", told(&result))
 }
 
+fn newick_read_answer(text: &[u8], mut out: Vec<u16>) -> String {
+    let result = newick::read(text, &mut out);
+    format!("{} {} {}", told(&result), result.unwrap_or(0), commas(&out))
+}
+
+fn newick_write_answer(record: &[u8], side: u16, mut out: Vec<u8>) -> String {
+    let result = newick::write(record, side, &mut out);
+    format!("{} {} {}", told(&result), result.unwrap_or(0), hex(&out))
+}
+
 /// The answer to a line without its line feed.
 pub fn answer(line: &[u8]) -> String {
     let Some(call) = call(line) else {
@@ -224,6 +239,8 @@ pub fn answer(line: &[u8]) -> String {
         Call::Hold(record, letter) => hold_answer(record, letter),
         Call::Pack(hold, n, numbers, layouts, out) => pack_answer(hold, n, numbers, layouts, out),
         Call::Unpack(record, numbers, layouts) => unpack_answer(&record, numbers, layouts),
+        Call::NewickRead(text, out) => newick_read_answer(&text, out),
+        Call::NewickWrite(record, side, out) => newick_write_answer(&record, side, out),
     }
 }
 
@@ -308,6 +325,7 @@ mod tests {
             ("pack 78 4 1,2,3,5,4,3 0,2,3,4,5,6 1,2,3,4 000000 000000 00", "7 3 00"),
             ("pack 78 4 1,2,3,5,4,6 0,2,3,4,5,6 1,2,3,4 000000 000000 00", "8 1 00"),
             ("unpack R 6,6 - 0 00 -", "7 3 0 0 6,6 - 0 00 -"),
+            ("newick_write R 1 0a0b", "7 3 0 0a0b"),
         ];
         let record = hex(&made.bytes());
         for (call, wanted) in calls {
@@ -321,6 +339,7 @@ mod tests {
             Call::Check(..) | Call::BetterCheck(..) => Some(1),
             Call::Order(..) | Call::Count(..) | Call::Pairs(..) => Some(2),
             Call::Hands(..) | Call::Hold(..) | Call::Pack(..) => Some(2),
+            Call::NewickRead(..) | Call::NewickWrite(..) => Some(3),
             Call::Entanglement(..) | Call::Free(..) => Some(4),
             Call::Run(..) => Some(6),
             Call::Better(..) => None,

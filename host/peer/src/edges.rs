@@ -8,7 +8,9 @@ use crate::faults;
 use crate::lines;
 use crate::made::{any_record, case_2, example, of_shape, Made};
 use crate::malformed;
+use crate::newick_edges;
 use crate::random::Random;
+use crate::spelling;
 
 const SIDES: [u16; 10] = [0, 1, 2, 3, 256, 257, 258, 512, 32769, 65535];
 #[rustfmt::skip]
@@ -31,6 +33,7 @@ pub fn all() -> Vec<String> {
     all.extend(packing());
     all.extend(packing_several_faults());
     all.extend(unpacking());
+    all.extend(newick_edges::all());
     all.extend(sizes());
     all.extend(bad_records());
     all.extend(bad_records_and_arguments());
@@ -102,6 +105,8 @@ fn calls_on(made: &Made, record: &[u8]) -> Vec<String> {
     calls.push(lines::hold(record, b'B'));
     let numbers = [vec![8; 2 * (n - 1)], vec![8; 2 * (n - 1)], vec![8; n]];
     calls.push(lines::unpack(record, &numbers, &[vec![8; n - 1], vec![8; n - 1]]));
+    let length = spelling::tree(&made.left, &made.left_layout).concat().len();
+    calls.push(lines::newick_write(record, 2, &vec![8; length]));
     calls
 }
 
@@ -145,12 +150,10 @@ fn rows_that_break_the_rule() -> Vec<String> {
         calls.push(lines::plain("check", &made.bytes()));
         calls.push(lines::pack(made.n, &made, &[]));
     }
-    for (made, _) in first_row_bad() {
-        calls.push(lines::plain("check", &made.bytes()));
-    }
-    for (made, _) in last_row_bad() {
-        calls.push(lines::plain("check", &made.bytes()));
-        calls.push(lines::pack(512, &made, &[]));
+    for ((first, _), (last, _)) in first_row_bad().iter().zip(&last_row_bad()) {
+        calls.push(lines::plain("check", &first.bytes()));
+        calls.push(lines::plain("check", &last.bytes()));
+        calls.push(lines::pack(512, last, &[]));
     }
     calls
 }
@@ -225,14 +228,14 @@ fn hand_lists() -> Vec<String> {
     calls
 }
 
-/// Hand lists of 1,023 to 1,026 entries, and 17 before everything else.
+/// Hand lists of about 1,024 entries and of more, and 17 before everything else.
 fn long_hand_lists() -> Vec<String> {
     let mut calls = Vec::new();
     let made = case_2();
     let list = |length: usize| -> Vec<(u16, u16)> {
         (0..length).map(|at| (1 + at as u16 % 2, 1 + at as u16 % 3)).collect()
     };
-    for length in [1023, 1024, 1025, 1026, 2048] {
+    for length in [1024, 1025, 1023, 1026, 2048] {
         calls.push(lines::hands(&made.bytes(), &list(length)));
         calls.push(lines::hands(&with_hold(made.clone(), b'B').bytes(), &list(length)));
         calls.push(lines::hands(&made.bytes()[..7], &list(length)));
@@ -320,15 +323,14 @@ fn long_orders() -> Vec<String> {
 fn holds() -> Vec<String> {
     let mut calls = Vec::new();
     for letter in 0..=256 {
-        calls.push(lines::hold(&case_2().bytes(), letter));
+        calls.push(lines::hold(&one_leaf().bytes(), letter));
     }
     for letter in [0, 66, 76, 77, 78, 82, 110, 255] {
-        for hold in [b'L', b'R', b'B', 0, b'n'] {
+        for hold in [b'N', b'L', b'R', b'B', 0, b'n'] {
             calls.push(lines::hold(&with_hold(case_2(), hold).bytes(), letter));
         }
         calls.push(lines::hold(&[], letter));
         calls.push(lines::hold(&case_2().bytes()[..7], letter));
-        calls.push(lines::hold(&one_leaf().bytes(), letter));
     }
     calls
 }
@@ -362,7 +364,7 @@ fn packing() -> Vec<String> {
     }
     for made in [one_leaf(), example(&[2, 1], &[1, 2]), made, backwards()] {
         let length = 12 * made.n as usize - 2;
-        for places in [0, length - 1, length, length + 1, length + 40] {
+        for places in [length, length - 1, length + 1, length + 40, 0] {
             calls.push(lines::pack(made.n, &made, &vec![7; places]));
         }
         if made.n < 512 {

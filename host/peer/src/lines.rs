@@ -53,3 +53,11 @@ pub fn unpack(record: &[u8], numbers: &[Vec<u16>; 3], layouts: &[Vec<u8>; 2]) ->
     let layouts = layouts.each_ref().map(|bytes| hex(bytes)).join(" ");
     format!("unpack {} {lists} {layouts}", hex(record))
 }
+
+pub fn newick_read(text: &[u8], out: &[u16]) -> String {
+    format!("newick_read {} {}", hex(text), commas(out))
+}
+
+pub fn newick_write(record: &[u8], side: impl Display, out: &[u8]) -> String {
+    format!("newick_write {} {side} {}", hex(record), hex(out))
+}

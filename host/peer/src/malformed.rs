@@ -25,7 +25,15 @@ const AROUND: &str = "\
     pack 78 1  - 1 - - -|pack R|unpack R - - - -|unpack R - - - - - -|unpack R 0, - - - -|\
     unpack R - - - 0 -|unpack R - - - - 0g|unpack R 65536 - - - -|unpack - - - - - |unpack|desk|\
     check 0|free - 65536|run - 4294967296|run R0 0|order - 0 1,|order 00 3 0,,0|better - 0 1, -|\
-    hands - 3:1,0|hold 00 256|pack 0 0 - - 1, - - -|unpack - - - - - 0";
+    hands - 3:1,0|hold 00 256|pack 0 0 - - 1, - - -|unpack - - - - - 0|newick_read|newick_read 313b|\
+    newick_read 313b |newick_read 313b - -|newick_read  313b -|newick_read 313 -|newick_read 313B -|\
+    newick_read 1; -|newick_read 313b,313b -|newick_read 313b 0,|newick_read 313b 65536|newick_read 313b 00:0|\
+    newick_read -- -|newick_read - --|newick_read 313b 0,-|newick_read 0x313b -|newick_read 313b\r -|\
+    Newick_read 313b -|newickread 313b -|newick-read 313b -|newick 313b -|newick_read 30 0,65536|\
+    newick_write|newick_write R|newick_write R 1|newick_write R 1 |newick_write R 1 - -|newick_write R 1 0|\
+    newick_write R 1 000|newick_write R 1 0,0|newick_write R 65537 00|newick_write R 65536 00|\
+    newick_write R - 00|newick_write R 1 0G|newick_write R 1a 00|newick_write R,R 1 00|newick_write 1 R 00|\
+    newick_write R 4294967297 00|newick_writes R 1 00|newick_write - 65536 -|newick_write R0 1 00";
 
 /// Fixed lines around one good record (its hexadecimal digits).
 pub fn fixed(record: &str) -> Vec<String> {

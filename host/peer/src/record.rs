@@ -149,7 +149,7 @@ fn read_head(bytes: &[u8]) -> Result<(u8, usize), Refusal> {
     }
     let n = two_bytes(&bytes[6..]) as usize;
     if n == 0 || n > MOST_LEAVES {
-        return Err(refusals::LEAVES);
+        return Err(refusals::SIZE);
     }
     Ok((hold, n))
 }
@@ -227,7 +227,7 @@ fn test_packing(hold: u8, n: u16, parts: &Parts) -> Result<Record, Refusal> {
         return Err(refusals::HOLD);
     }
     if n == 0 || n > MOST_LEAVES {
-        return Err(refusals::LEAVES);
+        return Err(refusals::SIZE);
     }
     let rows_fit = parts.left.len() == 2 * (n - 1) && parts.right.len() == 2 * (n - 1);
     let layouts_fit = parts.left_layout.len() == n - 1 && parts.right_layout.len() == n - 1;

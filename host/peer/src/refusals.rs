@@ -18,7 +18,7 @@ pub const SHORT: Refusal = without_row(1);
 pub const MARK: Refusal = without_row(2);
 pub const VERSION: Refusal = without_row(3);
 pub const HOLD: Refusal = without_row(4);
-pub const LEAVES: Refusal = without_row(5);
+pub const SIZE: Refusal = without_row(5);
 pub const LENGTH: Refusal = without_row(6);
 pub const LINKS: Refusal = without_row(9);
 pub const LAYOUT: Refusal = without_row(10);
@@ -29,6 +29,8 @@ pub const BUFFER: Refusal = without_row(14);
 pub const ROW: Refusal = without_row(15);
 pub const ORDER: Refusal = without_row(16);
 pub const HANDS: Refusal = without_row(17);
+pub const GRAMMAR: Refusal = without_row(18);
+pub const LEAVES: Refusal = without_row(19);
 
 /// 7, with the lowest left row that breaks the tree rule.
 pub const fn left_row(row: u16) -> Refusal {
@@ -65,12 +67,12 @@ mod tests {
     #[test]
     fn a_row_is_told_with_7_and_8_only() {
         let numbers = [
-            SHORT, MARK, VERSION, HOLD, LEAVES, LENGTH, LINKS, LAYOUT, HELD, ALLOWANCE, SIDE, BUFFER, ROW,
-            ORDER, HANDS,
+            SHORT, MARK, VERSION, HOLD, SIZE, LENGTH, LINKS, LAYOUT, HELD, ALLOWANCE, SIDE, BUFFER, ROW, ORDER,
+            HANDS, GRAMMAR, LEAVES,
         ];
         assert!(numbers.iter().all(|refusal| refusal.row == 0));
         let text: Vec<String> = numbers.iter().map(|refusal| refusal.to_string()).collect();
-        assert_eq!(text.join(","), "1,2,3,4,5,6,9,10,11,12,13,14,15,16,17");
+        assert_eq!(text.join(","), "1,2,3,4,5,6,9,10,11,12,13,14,15,16,17,18,19");
         assert_eq!(left_row(3).to_string(), "7 3");
         assert_eq!(right_row(511).to_string(), "8 511");
         assert_eq!(told(&Ok(5)), "0");
