@@ -10,6 +10,7 @@ pub use places::rows_at;
 pub use putting_back::put_back;
 pub use sides::is_held;
 pub use sides::is_side;
+pub use taking_apart::fill_side;
 pub use taking_apart::side_order;
 pub use taking_apart::take_apart;
 pub use taking_apart::take_orders;

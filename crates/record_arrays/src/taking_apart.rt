@@ -15,7 +15,7 @@ use record_fields::copying::bytes_in;
 use record_fields::fields::links_at;
 
 // Fills a row array with a side's rows, its layout applied.
-fn fill_side(s: &[u8], n: u16, side: u16, rows: &mut [u16; 1023])
+pub fn fill_side(s: &[u8], n: u16, side: u16, rows: &mut [u16; 1023])
     requires { ⌜ RecordOver (now s) n × (length (now rows) ≡ 1023) ⌝ }
     ensures { λ _. ⌜
         LaidOut (tableOf (now (s .entry)) .tree (sideOf side)) n (layout (layoutsOf (now (s .entry))) (sideOf side))

@@ -60,3 +60,7 @@ pub const ROW: u16 = 15;
 pub const ORDER: u16 = 16;
 // a hand list is longer than 1,024
 pub const HANDS: u16 = 17;
+// a text breaks the grammar of Newick text
+pub const GRAMMAR: u16 = 18;
+// a text's leaves aren't 1 to n, each once, or n is above 512
+pub const NUMBERED: u16 = 19;

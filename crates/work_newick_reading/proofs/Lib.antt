@@ -7,3 +7,4 @@ pub mod NotesLaws
 pub mod ReaderLaws
 pub mod GroupLaws
 pub mod WholeLaws
+pub mod Fresh

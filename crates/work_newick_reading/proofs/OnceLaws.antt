@@ -16,7 +16,7 @@ use Rattle.work_tree_rule.specs.Rule.{among}
 use Rattle.work_newick_reading.specs.Notes.{lastIn}
 use Rattle.work_newick_reading.specs.Once.{refusedLeaf, fresh, Marked, refusedBy, MarkedMore}
 
-true-false : {A : Type 0} → true ≡ false → A
+pub true-false : {A : Type 0} → true ≡ false → A
 true-false e = absurd (let z : _≡_ {A = ℕ} 0 1 = cc in omega arith)
 
 -- ---- one entry
@@ -95,19 +95,19 @@ none-marked = record {
 -- ---- the entries, one after the other
 
 module _ (n : ℕ) (seen : List ℕ) (x : ℕ) (xs : List ℕ) where
-  fresh-no-leaf : 1024 ≤ x → fresh n seen (x ∷ xs) ≡ fresh n seen xs
+  pub fresh-no-leaf : 1024 ≤ x → fresh n seen (x ∷ xs) ≡ fresh n seen xs
   unfolding fresh
   fresh-no-leaf h = rw (le-leb 1024 x h) refl
 
-  fresh-refused : x < 1024 → refusedLeaf n seen x ≡ true → fresh n seen (x ∷ xs) ≡ false
+  pub fresh-refused : x < 1024 → refusedLeaf n seen x ≡ true → fresh n seen (x ∷ xs) ≡ false
   unfolding fresh
   fresh-refused h e = rw (lt-leb 1024 x h, e) refl
 
-  fresh-more : x < 1024 → refusedLeaf n seen x ≡ false → fresh n seen (x ∷ xs) ≡ fresh n (x ∷ seen) xs
+  pub fresh-more : x < 1024 → refusedLeaf n seen x ≡ false → fresh n seen (x ∷ xs) ≡ fresh n (x ∷ seen) xs
   unfolding fresh
   fresh-more h e = rw (lt-leb 1024 x h, e) refl
 
-refused-range : (n : ℕ) (seen : List ℕ) (x : ℕ) → refusedLeaf n seen x ≡ false → (1 ≤ x) × (x ≤ n)
+pub refused-range : (n : ℕ) (seen : List ℕ) (x : ℕ) → refusedLeaf n seen x ≡ false → (1 ≤ x) × (x ≤ n)
 unfolding refusedLeaf
 refused-range n seen x e = go (ℕ-discrete x 0) (decLe x n)
   where

@@ -1,0 +1,3 @@
+pub mod SideWritten
+pub mod TextRead
+pub mod Outcomes
