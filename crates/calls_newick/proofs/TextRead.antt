@@ -69,6 +69,11 @@ bool-same true b f g = sym (f refl)
 bool-same false true f g = true-false (sym (g refl))
 bool-same false false f g = refl
 
+-- the rows of a sentence: two entries for each group
+pub length-rows-of : (s : Sentence) → length (rowsOf s) ≡ 2 * (leafCount s - 1)
+unfolding rowsOf
+length-rows-of s = let e = length-rows value (leafCount s) 0 s in omega (arith, groups-leaves s)
+
 -- ---- what the notes say
 
 module _ (s : Sentence) (T : List ℕ) (d : Noted s zeros T) (n : ℕ) (is-n : n ≡ cond (eqb (closedIn T) 512) 0 (closedIn T + 1)) where
@@ -172,8 +177,4 @@ module _ (s : Sentence) (T : List ℕ) (d : Noted s zeros T) (n : ℕ) (is-n : n
       rows-said = ap (map (fixed n)) noted-rows ∙ fixed-rows n 0 s small ∙ ap (λ k. rowsFrom value k 0 s) is-count
 
     pub length-said : length (rowsOf s) ≡ 2 * (n - 1)
-    unfolding rowsOf
-    length-said =
-        let c = is-count in
-        let e = length-rows value (leafCount s) 0 s in
-        omega (arith, groups-leaves s)
+    length-said = let c = is-count in omega (arith, length-rows-of s)

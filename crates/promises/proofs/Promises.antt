@@ -5,6 +5,7 @@ use Rattle.promises.proofs.Demand2.{demand2}
 use Rattle.promises.proofs.Demand3.{demand3}
 use Rattle.promises.proofs.Entanglement.{entanglement}
 use Rattle.promises.proofs.HandsTwice.{hands-twice}
+use Rattle.promises.proofs.Newick.{newick}
 use Rattle.promises.proofs.Examples.{examples}
 use Rattle.promises.proofs.Tried.{tried}
 
@@ -15,6 +16,7 @@ promises = record {
   demand3 = demand3;
   entanglement = entanglement;
   hands-twice = hands-twice;
+  newick = newick;
   examples = examples;
   tried = tried;
 }

@@ -5,6 +5,7 @@ use mathlib.Core.List.{List}
 use mathlib.Core.Option.{none}
 use Prim.Native.Nat.{ℕ}
 use borrow.Author.Tests.{ne-eqb}
+use lib.ListN.{length}
 use Rattle.record_fields.specs.Fields.{holdOf, sizeOf, parts, packed}
 use Rattle.record_fields.specs.Refusals.{refusal, setHoldRefusal}
 use Rattle.record_fields.proofs.Refused.{lent-refused, zero-refused}
@@ -21,6 +22,9 @@ use Rattle.calls_turns.specs.Refusals.{freeRefusal, runRefusal}
 use Rattle.calls_hands.specs.Refusals.{handsRefusal}
 use Rattle.calls_better.specs.Refusals.{betterRefusal}
 use Rattle.calls_better.specs.Calls.{betterPart, betterWhich}
+use Rattle.newick.specs.Sentence.{leafCount}
+use Rattle.newick.specs.Rows.{rowsOf}
+use Rattle.calls_newick.specs.Refusals.{said, newickReadRefusal, writtenText, newickWriteRefusal}
 use Rattle.promises.specs.Outcomes.{UnpackOutcome, UnpacksTo}
 use Rattle.promises.specs.RefusedCalls as RefusedCalls
 use Rattle.promises.specs.RefusedCalls.{NothingUnpacked}
@@ -80,6 +84,18 @@ refused-calls = record {
   compare = λ s side first second answer o h.
       let e = ne-eqb (betterRefusal s side first second) 0 (λ z. h (ap (λ a. a .refusal .number) (o .answers) ∙ z)) in
       (ap (λ a. a .which) (o .answers) ∙ rw e refl, ap (λ a. a .length) (o .answers) ∙ rw e refl);
+  newick-read = λ text out answer out′ o h.
+      let k = newickReadRefusal text out in
+      let z : k ≢ 0 = λ e. h (ap (λ a. a .refusal .number) (o .answers) ∙ e) in (
+        o .afterwards ∙ sym (lent-refused k (rowsOf (said text)) out z),
+        ap (λ a. a .n) (o .answers) ∙ sym (zero-refused k (leafCount (said text)) z),
+      );
+  newick-write = λ s side out answer out′ o h.
+      let k = newickWriteRefusal s side out in
+      let z : k ≢ 0 = λ e. h (ap (λ a. a .refusal .number) (o .answers) ∙ e) in (
+        o .afterwards ∙ sym (lent-refused k (writtenText s side) out z),
+        ap (λ a. a .length) (o .answers) ∙ sym (zero-refused k (length (writtenText s side)) z),
+      );
 }
   where
     no-entanglement : (answer : Entangled) → entangledRefusal answer .number ≢ 0 →

@@ -18,6 +18,7 @@ use Rattle.calls_show.proofs.Outcomes.{order-own, entangled-told}
 use Rattle.calls_turns.proofs.Turns.{free-own, run-own}
 use Rattle.calls_hands.proofs.HandLists.{hands-own}
 use Rattle.calls_better.proofs.Compared.{compare-own}
+use Rattle.calls_newick.proofs.Outcomes.{write-own}
 use Rattle.promises.specs.RowTold as RowTold
 
 -- a reading's refusal, case by case
@@ -46,4 +47,5 @@ row-told = record {
   hands = λ s hands answer s′ p. tells-row s (hands-own s hands refl) (p .answers);
   compare = λ s side first second answer p. tells-row s (compare-own s side first second refl) (ap (λ a. a .refusal) (p .answers));
   better-check = λ s side first second answer p. tells-row s (compare-own s side first second refl) (p .answers);
+  newick-write = λ s side out answer out′ p. tells-row s (write-own s side out refl) (ap (λ a. a .refusal) (p .answers));
 }

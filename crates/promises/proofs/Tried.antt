@@ -2,8 +2,10 @@
 use Prim.Native.Nat.{ℕ, pred}
 use mathlib.Core.Path.{_≡_, refl, sym, ap, _∙_}
 use mathlib.Core.Logic.{_⊎_, ⊎-elim}
+use mathlib.Core.List.{List, [], _∷_}
 use native.Mathlib.Omega.{arith}
 use borrow.Author.Tests.{ne-eqb}
+use lib.ListN.{getD}
 use Rattle.tanglegram.specs.Lists.{place, range}
 use Rattle.tanglegram.specs.Tree.{leaves, deep, object, used, Row}
 use Rattle.tanglegram.specs.Order.{order, write}
@@ -13,7 +15,12 @@ use Rattle.tanglegram.specs.Run.{left, after}
 use Rattle.tanglegram.specs.Examples.{gainsInTurn2}
 use Rattle.work_trees.specs.Rows.{upper, lower}
 use Rattle.work_tree_rule.specs.Rule.{among, first, badRow}
-use Rattle.record_fields.specs.Fields.{numbers, split, partsOf, packed}
+use Rattle.newick.specs.Sentence.{Sentence, number, group, none}
+use Rattle.newick.specs.Reading.{broken, read, textRead}
+use Rattle.newick.specs.Rows.{rowsOf}
+use Rattle.newick.specs.Writing.{textLength}
+use Rattle.newick.proofs.Grammar.{read-spells, spells-read}
+use Rattle.record_fields.specs.Fields.{sizeOf, numbers, split, partsOf, packed}
 use Rattle.record_fields.specs.Refusals.{all, isMark, isHold, noSize, breaksRule, oneToOne, isLayout, contentsRefusal, headingRefusal}
 use Rattle.record_fields.specs.Refusals.{refusal}
 use Rattle.record_fields.specs.Meaning.{relaid}
@@ -23,7 +30,8 @@ use Rattle.calls_better.specs.Calls.{betterWhich}
 use Rattle.promises.specs.Demand2.{FreeKeeps}
 use Rattle.promises.specs.Demand3.{countAfter}
 use Rattle.promises.specs.Examples.{recordOf}
-use Rattle.promises.specs.Tried.{tied, byte2, bothBad, Tried}
+use Rattle.promises.specs.Newick.{ReadAs}
+use Rattle.promises.specs.Tried.{tied, byte2, bothBad, goodText, badText, Tried}
 
 -- the record is accepted, and with the byte 2 it is refused
 refusals : (refusal tied ≡ 0) × (refusal byte2 ≡ 10)
@@ -57,6 +65,33 @@ first-right = record {
   lower-new = tt;
 }
 
+-- what is read of the good text, and that the other is none
+abbrev leafOf : ℕ → Sentence
+leafOf d = number (d ∷ []) none
+
+abbrev goodSentence : Sentence
+goodSentence = group (group (leafOf 50) (leafOf 49) none) (group (leafOf 52) (leafOf 51) none) none
+
+good-read : textRead goodText ≡ read goodSentence []
+unfolding textRead
+good-read = refl
+
+bad-read : textRead badText ≡ broken
+unfolding textRead
+bad-read = refl
+
+no-sentence : (s : Sentence) → textRead badText ≡ read s [] → ⊥
+no-sentence s e = let f = sym bad-read ∙ e in let z : _≡_ {A = ℕ} 0 1 = cc in omega (arith, z)
+
+-- its rows begin with 2
+first-row : (n : ℕ) (rows : List ℕ) → ReadAs goodSentence n rows → getD rows 0 0 ≡ 2
+unfolding rowsOf
+first-row n rows k = ap (λ r. getD r 0 0) (k .closing-order)
+
+ten-bytes : textLength (sizeOf tied) ≡ 10
+unfolding textLength numbers split partsOf packed range
+ten-bytes = refl
+
 pub tried : Tried
 unfolding betterWhich
 tried = record {
@@ -74,5 +109,12 @@ tried = record {
   settled-at-turn-1 = λ answer s′ e k. let never = k .not-by-one refl in omega (arith, never);
   refused-part-of-second = λ s side first second first-at second-at ne h b.
       ne (sym (b .begins ∙ rw (ne-eqb (betterRefusal s side first second) 0 h) refl));
+  refuses-good-text = λ k. k .breaks-grammar .0 refl goodSentence (read-spells goodText goodSentence [] good-read .1);
+  leaf-twice-first = λ k. let p = k .not-numbered .0 refl in no-sentence (p .0) (spells-read badText (p .0) (p .1));
+  opening-order = λ k.
+      let e = first-row _ _ (k .read-as refl goodSentence (read-spells goodText goodSentence [] good-read .1)) in omega (arith, e);
+  reads-nothing = λ k.
+      let e = first-row _ _ (k .read-as refl goodSentence (read-spells goodText goodSentence [] good-read .1)) in omega (arith, e);
+  line-feed-written = λ out out′ k. let e = k .long in omega (arith, e, ten-bytes);
   part-elsewhere = λ s side first second first-at second-at part part-at e ne b. ne (b .begins ∙ rw e refl);
 }

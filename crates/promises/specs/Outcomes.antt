@@ -14,6 +14,7 @@ use Rattle.calls_turns.specs.Calls.{Frees, Runs}
 use Rattle.calls_hands.specs.Refusals.{Hand}
 use Rattle.calls_hands.specs.Calls.{Hands}
 use Rattle.calls_better.specs.Calls.{Address, Betters, Compares, BetterChecks}
+use Rattle.calls_newick.specs.Calls.{NewickReads, NewickWrites}
 
 -- What unpacking comes to: its answer, and what is in the five buffers afterwards.
 pub record UnpackOutcome : Type 0 where
@@ -49,3 +50,5 @@ pub record Outcomes : Type 0 where
       (x ≡ y) × (x-at ≡ y-at)
   pub compare : (s : List ℕ) (side : ℕ) (first second : List ℕ) → Fixes (Compares s side first second)
   pub better-check : (s : List ℕ) (side : ℕ) (first second : List ℕ) → Fixes (BetterChecks s side first second)
+  pub newick-read : (text out : List ℕ) → FixesBoth (NewickReads text out)
+  pub newick-write : (s : List ℕ) (side : ℕ) (out : List ℕ) → FixesBoth (NewickWrites s side out)

@@ -4,6 +4,7 @@ use Rattle.promises.specs.Demand2.{Demand2}
 use Rattle.promises.specs.Demand3.{Demand3}
 use Rattle.promises.specs.Entanglement.{Entanglement}
 use Rattle.promises.specs.HandsTwice.{HandsTwice}
+use Rattle.promises.specs.Newick.{Newick}
 use Rattle.promises.specs.Examples.{Examples}
 use Rattle.promises.specs.Tried.{Tried}
 
@@ -19,6 +20,8 @@ pub record Promises : Type 0 where
   -- D, W and their ratio; a row that is turned over by hand twice is as it was.
   pub entanglement : Entanglement
   pub hands-twice : HandsTwice
+  -- Newick text is read and refused by its grammar, and what is written is read back the same.
+  pub newick : Newick
   -- The examples come out as the customer has them.
   pub examples : Examples
   -- Wrong outcomes are excluded.

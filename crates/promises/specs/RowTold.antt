@@ -20,6 +20,8 @@ use Rattle.calls_hands.specs.Refusals.{Hand}
 use Rattle.calls_hands.specs.Calls.{Hands}
 use Rattle.calls_better.specs.declared.answers.Compared.{Compared}
 use Rattle.calls_better.specs.Calls.{Compares, BetterChecks}
+use Rattle.calls_newick.specs.declared.answers.NewickWritten.{NewickWritten}
+use Rattle.calls_newick.specs.Calls.{NewickWrites}
 use Rattle.promises.specs.Outcomes.{UnpackOutcome, UnpacksTo}
 
 -- A refusal says the row of a record.
@@ -47,3 +49,6 @@ pub record RowTold : Type 0 where
       Says s (answer .refusal)
   pub better-check : (s : List ℕ) (side : ℕ) (first second : List ℕ) (answer : Refusal) → BetterChecks s side first second answer →
       Says s answer
+  -- Reading a text has no record: `Newick` says that its refusals come with row 0.
+  pub newick-write : (s : List ℕ) (side : ℕ) (out : List ℕ) (answer : NewickWritten) (out′ : List ℕ) → NewickWrites s side out answer out′ →
+      Says s (answer .refusal)

@@ -7,6 +7,7 @@ use Rattle.tanglegram.specs.Run.{left}
 use Rattle.tanglegram.specs.Examples.{bytesOf, rootsTie, gainsInTurn2, oneLeaf}
 use Rattle.record_fields.specs.Fields.{Parts, given}
 use Rattle.record_fields.specs.Meaning.{relaid}
+use Rattle.record_fields.specs.Refused.{refused}
 use Rattle.record_fields.specs.Told.{SaysRow}
 use Rattle.record_arrays.specs.Shown.{shownCount}
 use Rattle.calls_turns.specs.declared.answers.Ran.{Ran}
@@ -15,6 +16,7 @@ use Rattle.calls_better.specs.Calls.{betterWhich, Address, Betters}
 use Rattle.promises.specs.HeldStays.{Keeps}
 use Rattle.promises.specs.Demand2.{FreeKeeps}
 use Rattle.promises.specs.Demand3.{RunKeeps}
+use Rattle.promises.specs.Newick.{Reading, Writing}
 use Rattle.promises.specs.Examples.{recordOf}
 
 -- Example 5, whose roots tie, and the same with the left root's byte 2: not the byte that turns it over, though read as turned. The count
@@ -28,6 +30,16 @@ byte2 = relaid tied (bytesOf (0 ∷ 2 ∷ []) (0 ∷ 0 ∷ []))
 -- Rows over three leaves of which both break the tree rule: the first by its range, the second by using its entry twice.
 abbrev pub bothBad : Parts
 bothBad = given 78 3 (1 ∷ 5 ∷ 2 ∷ 2 ∷ []) (1 ∷ 2 ∷ 4 ∷ 3 ∷ []) (1 ∷ 2 ∷ 3 ∷ []) (0 ∷ 0 ∷ []) (0 ∷ 0 ∷ [])
+
+-- The text `((2,1),(4,3));`; the same leaves with a leaf twice and a parenthesis missing, `((1,1),(4,3);`; and a buffer for three rows.
+abbrev pub goodText : List ℕ
+goodText = 40 ∷ 40 ∷ 50 ∷ 44 ∷ 49 ∷ 41 ∷ 44 ∷ 40 ∷ 52 ∷ 44 ∷ 51 ∷ 41 ∷ 41 ∷ 59 ∷ []
+
+abbrev pub badText : List ℕ
+badText = 40 ∷ 40 ∷ 49 ∷ 44 ∷ 49 ∷ 41 ∷ 44 ∷ 40 ∷ 52 ∷ 44 ∷ 51 ∷ 41 ∷ 59 ∷ []
+
+abbrev pub nines : List ℕ
+nines = 9 ∷ 9 ∷ 9 ∷ 9 ∷ 9 ∷ 9 ∷ []
 
 pub record Tried : Type 0 where
   -- A refusal 7 that says the last bad row in place of the lowest; one that says no row;
@@ -54,3 +66,12 @@ pub record Tried : Type 0 where
   -- second, or later in the first.
   pub part-elsewhere : (s : List ℕ) (side : ℕ) (first second : List ℕ) (first-at second-at : Address) (part : List ℕ) (part-at : Address) →
       betterWhich s side first second ≡ 1 → part-at ≢ first-at → Betters s side first second first-at second-at part part-at → ⊥
+  -- Reading that refuses a good text by 18; that tells 19 of a text that breaks the grammar, which has a leaf twice;
+  pub refuses-good-text : Reading goodText nines (record { refusal = refused 18; n = 0 }) nines → ⊥
+  pub leaf-twice-first : Reading badText nines (record { refusal = refused 19; n = 0 }) nines → ⊥
+  -- that numbers rows in the order in which groups open: the root is row 1, and makes object 5;
+  pub opening-order : Reading goodText nines (record { refusal = refused 0; n = 4 }) (6 ∷ 7 ∷ 2 ∷ 1 ∷ 4 ∷ 3 ∷ []) → ⊥
+  -- and that accepts it and writes nothing.
+  pub reads-nothing : Reading goodText nines (record { refusal = refused 0; n = 4 }) nines → ⊥
+  -- Writing that ends in a line feed.
+  pub line-feed-written : (out out′ : List ℕ) → Writing tied 1 out (record { refusal = refused 0; length = 11 }) out′ → ⊥
