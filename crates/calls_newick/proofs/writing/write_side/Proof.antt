@@ -35,7 +35,7 @@ returns c =
     let l = c .before .before in
     let f = l .before .before .before .before .before .before in
     let s = f .before .before .before .before in
-    side-no-room (s .args .s .now) (s .args .side) (s .args .out .now) (rw (length-is l) at (c .before .if1 .taken))
+    side-no-room (s .args .s .now) (s .args .side) (s .args .out .now) (omega (arith, length-is l, c .before .if1 .taken))
     (ap (λ r. record { refusal = r; length = 0 }) (c .refused .ensures))
 
 write-text-requires : tie.Need-write-text-requires
@@ -61,7 +61,7 @@ returns-2 c =
     let s = f .before .before .before .before in
     let e = w .before .before .before .before in
     side-written (s .args .s .now) (s .args .side) (s .args .out .now) (c .refused2 .ensures) (length-is l)
-    (rw (length-is l) at (e .if1 .left)) (w .write-text .ensures ∙ ap (sets (s .args .out .now) 0) (laid-text _ _ (f .fill-side .ensures)))
+    (omega (arith, length-is l, e .if1 .left)) (w .write-text .ensures ∙ ap (sets (s .args .out .now) 0) (laid-text _ _ (f .fill-side .ensures)))
 
 pub write-side-spec : {M : Type 1} → statement M
 write-side-spec =
