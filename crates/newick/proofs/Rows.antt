@@ -237,7 +237,8 @@ module _ (s : Sentence) (once : List·Permᴰ (leafNumbers s) (range 1 (leafCoun
 
   -- the object of a part of the sentence, behind k closed groups
   object-tree : (k : ℕ) (a : Sentence) → RowsAt (rowsOf s) value (leafCount s) k a → Among (leafCount s) a →
-      k + groups a < leafCount s → object (upper (rowsOf s)) (lower (rowsOf s)) (leafCount s) (objectFrom value (leafCount s) k a) ≡ treeFrom k a
+      k + groups a < leafCount s →
+      object (upper (rowsOf s)) (lower (rowsOf s)) (leafCount s) (objectFrom value (leafCount s) k a) ≡ treeFrom k a
   unfolding groups objectFrom leafNumbers treeFrom
   object-tree k (number ds l) at p h = object-leaf (leafCount s) (upper (rowsOf s)) (lower (rowsOf s)) rows-rule (value ds) (p .0 .1)
   object-tree k (group a b l) at p h =

@@ -18,7 +18,8 @@ use Rattle.tanglegram.proofs.Lists.{each-map, each-split, length-perm, all-leng
 use Rattle.tanglegram.proofs.ListSums.{sum-append, sum-last, sum-perm}
 use Rattle.tanglegram.proofs.Tree.{eachRow-map}
 use Rattle.tanglegram.proofs.Order.{order-perm}
-use Rattle.newick.specs.Sentence.{Sentence, number, group, none, spell, opens, groups, valueFrom, value, leafNumbers, leafCount, semicolon}
+use Rattle.newick.specs.Sentence.{Sentence, number, group, none, spell, opens, groups, semicolon}
+use Rattle.newick.specs.Sentence.{valueFrom, value, leafNumbers, leafCount}
 use Rattle.newick.specs.Grammar.{Digit, Good, Spells}
 use Rattle.newick.specs.Rows.{treeFrom}
 use Rattle.newick.specs.Writing.{decimal, sentenceOf, textOf, textLength}

@@ -1,5 +1,5 @@
--- What reading and writing Newick text promise: the laws of the grammar, of a sentence's rows and of written texts (the crate `newick`), over
--- the calls.
+-- What reading and writing Newick text promise: the laws of the grammar, of a sentence's rows and of written texts (the crate `newick`),
+-- over the calls.
 use Prim.Native.Nat.{ℕ, pred, _-_, _*_, _≤_, _<_}
 use mathlib.Core.Path.{_≡_, refl, sym, ap, ap₂, _∙_, subst}
 use mathlib.Core.Logic.{_↔_, _⊎_, inl, inr}
@@ -318,7 +318,8 @@ module _ (s : List ℕ) (side : ℕ) (out : List ℕ) (written : NewickWritten) 
       reading (writtenText s side) buffer answer after q′ .accepted .1
       (S s side good, spells s side good, numbered s side good, omega arith)
 
-  pub there-and-back : (answer .refusal .number ≡ 0) × ReadBack s side (take (written .length) out′) (answer .n) (take (2 * (answer .n - 1)) after)
+  pub there-and-back : (answer .refusal .number ≡ 0) ×
+      ReadBack s side (take (written .length) out′) (answer .n) (take (2 * (answer .n - 1)) after)
   there-and-back =
       let w = writtenText s side in
       let sp = spells s side good in (

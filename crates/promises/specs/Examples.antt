@@ -103,9 +103,11 @@ textLine text out k n after = record { text = text; buffer = out; comes-to = rec
 abbrev pub textExamples : List TextLine
 textExamples =
     -- `(4,(3,(1,2)));`, example 1, into a buffer of seven places: four leaves, and rows in the order in which groups close.
-    textLine (40 ∷ 52 ∷ 44 ∷ 40 ∷ 51 ∷ 44 ∷ 40 ∷ 49 ∷ 44 ∷ 50 ∷ 41 ∷ 41 ∷ 41 ∷ 59 ∷ []) (9 ∷ 9 ∷ 9 ∷ 9 ∷ 9 ∷ 9 ∷ 9 ∷ []) 0 4 (1 ∷ 2 ∷ 3 ∷ 5 ∷ 4 ∷ 6 ∷ 9 ∷ [])
+    textLine (40 ∷ 52 ∷ 44 ∷ 40 ∷ 51 ∷ 44 ∷ 40 ∷ 49 ∷ 44 ∷ 50 ∷ 41 ∷ 41 ∷ 41 ∷ 59 ∷ [])
+    (9 ∷ 9 ∷ 9 ∷ 9 ∷ 9 ∷ 9 ∷ 9 ∷ []) 0 4 (1 ∷ 2 ∷ 3 ∷ 5 ∷ 4 ∷ 6 ∷ 9 ∷ [])
     -- `((2,1),(4,3));`
-    ∷ textLine (40 ∷ 40 ∷ 50 ∷ 44 ∷ 49 ∷ 41 ∷ 44 ∷ 40 ∷ 52 ∷ 44 ∷ 51 ∷ 41 ∷ 41 ∷ 59 ∷ []) (9 ∷ 9 ∷ 9 ∷ 9 ∷ 9 ∷ 9 ∷ []) 0 4 (2 ∷ 1 ∷ 4 ∷ 3 ∷ 5 ∷ 6 ∷ [])
+    ∷ textLine (40 ∷ 40 ∷ 50 ∷ 44 ∷ 49 ∷ 41 ∷ 44 ∷ 40 ∷ 52 ∷ 44 ∷ 51 ∷ 41 ∷ 41 ∷ 59 ∷ [])
+    (9 ∷ 9 ∷ 9 ∷ 9 ∷ 9 ∷ 9 ∷ []) 0 4 (2 ∷ 1 ∷ 4 ∷ 3 ∷ 5 ∷ 6 ∷ [])
     -- `(1:5.,2:.5):007;` and a line feed: lengths are read and dropped.
     ∷ textLine (40 ∷ 49 ∷ 58 ∷ 53 ∷ 46 ∷ 44 ∷ 50 ∷ 58 ∷ 46 ∷ 53 ∷ 41 ∷ 58 ∷ 48 ∷ 48 ∷ 55 ∷ 59 ∷ 10 ∷ []) (9 ∷ 9 ∷ []) 0 2 (1 ∷ 2 ∷ [])
     -- `1;`, one leaf, and `2;`, which is not leaf 1.

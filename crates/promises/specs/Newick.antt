@@ -1,7 +1,8 @@
--- The customer, in the second request for changes: "A subtree is a leaf number or a group, a group is two subtrees between parentheses with
--- a comma, and a semicolon ends the text. .. Rows are numbered in the order in which groups close. .. Refusals: 18 text breaks the grammar; 19
--- leaves aren't 1 to n once each, or n above 512. 18 before 19, both before 14." And: "Reading what was written gives a tree with all bytes 0
--- and the same leaf order and the same sets of leaves under its rows; writing it again gives the same text." For every outcome of the calls.
+-- The customer, in the second request for changes: "A subtree is a leaf number or a group, a group is two subtrees between parentheses
+-- with a comma, and a semicolon ends the text. .. Rows are numbered in the order in which groups close. .. Refusals: 18 text breaks the
+-- grammar; 19 leaves aren't 1 to n once each, or n above 512. 18 before 19, both before 14." And: "Reading what was written gives a tree
+-- with all bytes 0 and the same leaf order and the same sets of leaves under its rows; writing it again gives the same text." For every
+-- outcome of the calls.
 use Prim.Native.Nat.{ℕ, _-_, _*_, _≤_, _<_}
 use mathlib.Core.Path.{_≡_}
 use mathlib.Core.Logic.{_↔_, _⊎_}
@@ -59,7 +60,8 @@ pub record Reading (text out : List ℕ) (answer : NewickRead) (out′ : List �
   pub read-as : answer .refusal .number ≡ 0 → (s : Sentence) → Spells text s → ReadAs s (answer .n) (take (2 * (answer .n - 1)) out′)
   pub beyond : answer .refusal .number ≡ 0 → drop (2 * (answer .n - 1)) out′ ≡ drop (2 * (answer .n - 1)) out
   -- There is no other number, and none of these comes with a row.
-  pub no-other : (answer .refusal .number ≡ 0) ⊎ ((answer .refusal .number ≡ 14) ⊎ ((answer .refusal .number ≡ 18) ⊎ (answer .refusal .number ≡ 19)))
+  pub no-other : (answer .refusal .number ≡ 0) ⊎ ((answer .refusal .number ≡ 14) ⊎
+      ((answer .refusal .number ≡ 18) ⊎ (answer .refusal .number ≡ 19)))
   pub no-row : answer .refusal .row ≡ 0
 
 -- ---- writing
@@ -86,8 +88,9 @@ pub record ReadBack (r : List ℕ) (side : ℕ) (text : List ℕ) (n : ℕ) (row
   pub same-order : (lay : List ℕ) → AsGiven lay → order lay (treeIn n rows) ≡ shownOrder r (sideOf side)
   pub same-sets : SameSets (tableOf r .tree (sideOf side)) (treeIn n rows)
   -- "writing it again gives the same text": any record with these rows on a side, all bytes 0.
-  pub same-text : (r′ : List ℕ) (side′ : ℕ) (out : List ℕ) (answer : NewickWritten) (out′ : List ℕ) → NewickWrites r′ side′ out answer out′ →
-      answer .refusal .number ≡ 0 → sizeOf r′ ≡ n → rowsOn r′ (sideOf side′) ≡ rows → AsGiven (layout (layoutsOf r′) (sideOf side′)) →
+  pub same-text : (r′ : List ℕ) (side′ : ℕ) (out : List ℕ) (answer : NewickWritten) (out′ : List ℕ) →
+      NewickWrites r′ side′ out answer out′ → answer .refusal .number ≡ 0 → sizeOf r′ ≡ n → rowsOn r′ (sideOf side′) ≡ rows →
+      AsGiven (layout (layoutsOf r′) (sideOf side′)) →
       take (answer .length) out′ ≡ text
 
 pub record Newick : Type 0 where
@@ -97,8 +100,9 @@ pub record Newick : Type 0 where
   pub writing : (s : List ℕ) (side : ℕ) (out : List ℕ) (answer : NewickWritten) (out′ : List ℕ) → NewickWrites s side out answer out′ →
       answer .refusal .number ≡ 0 → Writing s side out answer out′
   -- A side written, and what was written read into a buffer with room.
-  pub there-and-back : (s : List ℕ) (side : ℕ) (out : List ℕ) (written : NewickWritten) (out′ : List ℕ) → NewickWrites s side out written out′ →
-      written .refusal .number ≡ 0 → (buffer : List ℕ) → 2 * (sizeOf s - 1) ≤ length buffer → (answer : NewickRead) (after : List ℕ) →
+  pub there-and-back : (s : List ℕ) (side : ℕ) (out : List ℕ) (written : NewickWritten) (out′ : List ℕ) →
+      NewickWrites s side out written out′ → written .refusal .number ≡ 0 → (buffer : List ℕ) → 2 * (sizeOf s - 1) ≤ length buffer →
+      (answer : NewickRead) (after : List ℕ) →
       NewickReads (take (written .length) out′) buffer answer after →
       (answer .refusal .number ≡ 0) ×
       ReadBack s side (take (written .length) out′) (answer .n) (take (2 * (answer .n - 1)) after)

@@ -99,5 +99,6 @@ module _ (text : List ℕ) where
         pub pointed-length : end′ ≢ at + 2 → LengthEnds (lengthIn (drop at text)) text at end′
         pointed-length h =
             let long = long-both in
-            rw (pointed-read, ne-eqb (length (digits (drop (at + 1) text)) + length (digits (drop (end + 1) text))) 0 (λ z. h (omega arith)))
+            let some : length (digits (drop (at + 1) text)) + length (digits (drop (end + 1) text)) ≢ 0 = λ z. h (omega arith) in
+            rw (pointed-read, ne-eqb (length (digits (drop (at + 1) text)) + length (digits (drop (end + 1) text))) 0 some)
             (record { ahead = omega arith; within = d′ .ends .within; left = refl })

@@ -33,7 +33,8 @@ noted-leaf ds l T leaf g e =
         all-closed = closed-same ∙ sym (add-zero (closedIn T));
         its-object = getD-set-same T 1023 leaf 0 (omega arith) ∙ e;
         its-rows =
-            rw (add-zero (closedIn T)) (take-set-le (2 * closedIn T) T 1023 leaf (omega arith) ∙ sym (append-nil (take (2 * closedIn T) T)));
+            rw (add-zero (closedIn T))
+            (take-set-le (2 * closedIn T) T 1023 leaf (omega arith) ∙ sym (append-nil (take (2 * closedIn T) T)));
       };
       many = λ h. closed-same ∙ (let m = g .few-closed in omega arith);
     }
@@ -95,7 +96,8 @@ module _ (X : List ℕ) (long : length X ≡ 1025) (first : ℕ) (few : closedIn
       take-suc-set one (m + 1) (lastIn one) (simp length-set (omega arith)) in
       let fst : take (m + 1) one ≡ take m X ++ (first ∷ []) =
       ap (λ z. take z one) once ∙ take-suc-set X m first (omega arith) in
-      past ∙ ap (λ z. take z E) twice ∙ second ∙ ap₂ (λ y z. y ++ (z ∷ [])) fst row-last ∙ append-assoc (take m X) (first ∷ []) (lastIn X ∷ [])
+      past ∙ ap (λ z. take z E) twice ∙ second ∙ ap₂ (λ y z. y ++ (z ∷ [])) fst row-last
+      ∙ append-assoc (take m X) (first ∷ []) (lastIn X ∷ [])
 
 -- ---- a group
 

@@ -85,7 +85,9 @@ module _ (text : List ℕ) (at : ℕ) where
   leaf-low h = go (ℕ-discrete (getD text at 256) 48)
     where
       go : Dec (getD text at 256 ≡ 48) → leafIn (drop at text) ≡ broken
-      go (yes e) = leaf-broken (drop at text) (rw (eq-eqb (head (drop at text)) 48 (head-at text at ∙ e)) (or-true (eqb (length (digits (drop at text))) 0)))
+      go (yes e) =
+          leaf-broken (drop at text)
+          (rw (eq-eqb (head (drop at text)) 48 (head-at text at ∙ e)) (or-true (eqb (length (digits (drop at text))) 0)))
       go (no e) = no-digit-broken (sym (digit-low (getD text at 256) (omega arith)))
 
   pub leaf-high : 57 < getD text at 256 → leafIn (drop at text) ≡ broken
@@ -95,7 +97,8 @@ module _ (text : List ℕ) (at : ℕ) where
     within : at < length text
     within = byte-within text at (λ z. absurd (omega arith))
 
-    first-digit : (digits (drop at text) ≡ getD text at 0 ∷ digits (drop (at + 1) text)) × (pastDigits (drop at text) ≡ pastDigits (drop (at + 1) text))
+    first-digit : (digits (drop at text) ≡ getD text at 0 ∷ digits (drop (at + 1) text)) ×
+        (pastDigits (drop at text) ≡ pastDigits (drop (at + 1) text))
     first-digit =
         let there = text-at text at within in
         let same = sym (ap (λ xs. getD xs 0 256) there) ∙ head-at text at in
@@ -121,7 +124,8 @@ module _ (text : List ℕ) (at : ℕ) where
         let ahead = digits-further end leaf d in
         subst (λ R. Reads R text at T (set T 1023 leaf) r)
         (sym (leaf-good ∙ ap (λ xs. withLength (number ds) (lengthIn xs)) (sym (d .ends .left))))
-        (with-length text at T (set T 1023 leaf) (number ds) end r ahead (λ l. noted-leaf ds l T leaf g (d .says)) (lengthIn (drop end text)) h)
+        (with-length text at T (set T 1023 leaf) (number ds) end r ahead (λ l. noted-leaf ds l T leaf g (d .says))
+        (lengthIn (drop end text)) h)
 
 -- ---- a group whose parenthesis was read
 
@@ -152,7 +156,8 @@ module _ (sub : List ℕ → Read) (text : List ℕ) (at : ℕ) where
         pub group-whole : getD text end 256 ≡ 41 → groupBy sub (drop at text) ≡ withLength (group a b) (lengthIn (drop (end + 1) text))
         unfolding groupBy
         group-whole h =
-            rw (first, is-comma, behind-at text comma, second, eq-eqb (head (drop end text)) 41 (head-at text end ∙ h), behind-at text end) refl
+            let closes = eq-eqb (head (drop end text)) 41 (head-at text end ∙ h) in
+            rw (first, is-comma, behind-at text comma, second, closes, behind-at text end) refl
 
 -- ---- a subtree, where d groups more may be opened
 

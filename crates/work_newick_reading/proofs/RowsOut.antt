@@ -1,7 +1,7 @@
 -- Rows written to a buffer entry by entry, each as it is over n leaves.
 use Prim.Native.Nat.{ℕ, _+_, _<_}
-use mathlib.Core.Path.{_≡_, refl, sym, ap, _∙_}
-use mathlib.Core.List.{List, [], _∷_, _++_, map}
+use mathlib.Core.Path.{_≡_, sym, ap, _∙_}
+use mathlib.Core.List.{List, [], _∷_, _++_, map, map-append}
 use native.Mathlib.Nat.{zero-add}
 use native.Mathlib.Numerals.{add-one}
 use native.Mathlib.Omega.{arith}
@@ -9,10 +9,6 @@ use lib.ListN.{length, getD, set, take, length-map}
 use lib.Seq.{sets, take-suc, length-take-le}
 use Rattle.work_trees.proofs.Stores.{sets-append}
 use Rattle.newick.specs.Noted.{fixed}
-
-map-append : (f : ℕ → ℕ) (xs ys : List ℕ) → map f (xs ++ ys) ≡ map f xs ++ map f ys
-map-append f [] ys = refl
-map-append f (x ∷ xs) ys = ap (λ r. f x ∷ r) (map-append f xs ys)
 
 module _ (T : List ℕ) (n : ℕ) (found : List ℕ) where
   -- the first i entries are written

@@ -90,7 +90,8 @@ fn fixed_entry(x: u16, n: u16) -> u16
 // Writes the rows that were noted to the first places of a buffer, over n leaves.
 pub fn rows_out(notes: &[u16; 1025], n: u16, out: &mut [u16])
     requires { ⌜ (length (now notes) ≡ 1025) × (1 ≤ n) × (n ≤ 512) × (2 * (n - 1) ≤ length (now out)) ⌝ }
-    ensures { λ _. ⌜ now (out .exit) ≡ sets (now (out .entry)) 0 (map (fixed n) (take (2 * (n - 1)) (now (notes .entry)))) ⌝ }
+    ensures { λ _. ⌜ now (out .exit)
+        ≡ sets (now (out .entry)) 0 (map (fixed n) (take (2 * (n - 1)) (now (notes .entry)))) ⌝ }
 {
     let m = 2 * (n as usize - 1);
     let mut i = 0;

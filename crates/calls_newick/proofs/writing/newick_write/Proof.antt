@@ -21,7 +21,8 @@ returns c =
     let i = c .before .before in
     let s = i .before .before .before in
     let e = sym (i .is-side .ensures) ∙ not-true _ (c .before .if1 .taken) in
-    write-refused (s .args .s .now) (s .args .side) (s .args .out .now) (c .refused .ensures ∙ told-alone (parts (s .args .s .now)) (record { alone = refl }))
+    write-refused (s .args .s .now) (s .args .side) (s .args .out .now)
+    (c .refused .ensures ∙ told-alone (parts (s .args .s .now)) (record { alone = refl }))
     (writing-13 (s .args .s .now) (s .args .side) (s .args .out .now) e) (omega arith)
 
 refusal-number-requires : tie.Need-refusal-number-requires
@@ -38,7 +39,8 @@ returns-2 c =
     let e = sym (i .is-side .ensures) ∙ not-false _ (k .before .if1 .left) in
     let n = k .refusal-number .ensures in
     write-refused (s .args .s .now) (s .args .side) (s .args .out .now) (c .told .ensures)
-    (writing-record (s .args .s .now) (s .args .side) (s .args .out .now) e (λ z. c .before .if2 .taken (n ∙ z)) ∙ sym n) (c .before .if2 .taken)
+    (writing-record (s .args .s .now) (s .args .side) (s .args .out .now) e (λ z. c .before .if2 .taken (n ∙ z)) ∙ sym n)
+    (c .before .if2 .taken)
 
 size-of-requires : tie.Need-size-of-requires
 size-of-requires c κs = long-enough _ (sym (c .before .refusal-number .ensures) ∙ c .if2 .left)

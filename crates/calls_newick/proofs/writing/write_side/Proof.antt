@@ -61,7 +61,8 @@ returns-2 c =
     let s = f .before .before .before .before in
     let e = w .before .before .before .before in
     side-written (s .args .s .now) (s .args .side) (s .args .out .now) (c .refused2 .ensures) (length-is l)
-    (omega (arith, length-is l, e .if1 .left)) (w .write-text .ensures ∙ ap (sets (s .args .out .now) 0) (laid-text _ _ (f .fill-side .ensures)))
+    (omega (arith, length-is l, e .if1 .left))
+    (w .write-text .ensures ∙ ap (sets (s .args .out .now) 0) (laid-text _ _ (f .fill-side .ensures)))
 
 pub write-side-spec : {M : Type 1} → statement M
 write-side-spec =

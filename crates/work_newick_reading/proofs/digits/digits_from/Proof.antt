@@ -1,5 +1,5 @@
 -- `digits_from`: digit after digit, until there is none; x stands for the number that they say.
-use Prim.Native.Nat.{_-_, _≤_}
+use Prim.Native.Nat.{ℕ, _-_, _≤_}
 use mathlib.Core.Path.{_≡_, sym, _∙_}
 use mathlib.Core.Bool.{true}
 use native.Mathlib.Omega.{arith}
@@ -18,11 +18,19 @@ Inv-loop text from t x₀ at₀ x at = DigitsTo (textIn text) from x at
 abbrev μ-loop : tie.MeasureT-loop
 μ-loop text from t x₀ at₀ x at = length (textIn text) - at
 
--- the byte is a digit
-is-true : (c : tie.Else1 Inv-loop μ-loop) → isDigit (getD (textIn (c .before .before .before .before .before .before .args .text .now)) (c .before .before .before .before .loop .at) 0) ≡ true
+-- where the byte is a digit
+abbrev HasDigit : Type 0
+HasDigit = tie.Else1 Inv-loop μ-loop
+
+abbrev byteHere : HasDigit → ℕ
+byteHere c =
+    let l = c .before .before .before .before in
+    getD (textIn (l .before .before .args .text .now)) (l .loop .at) 0
+
+is-true : (c : HasDigit) → isDigit (byteHere c) ≡ true
 is-true c = sym (c .before .is-digit .ensures) ∙ not-false _ (c .if1 .left)
 
-is-one : (c : tie.Else1 Inv-loop μ-loop) → let b = getD (textIn (c .before .before .before .before .before .before .args .text .now)) (c .before .before .before .before .loop .at) 0 in (48 ≤ b) × (b ≤ 57)
+is-one : (c : HasDigit) → (48 ≤ byteHere c) × (byteHere c ≤ 57)
 is-one c = digit-range _ (is-true c)
 
 element-copy-out-t : tie.Need-element-copy-out-t Inv-loop μ-loop

@@ -13,13 +13,15 @@ use Rattle.work_newick_reading.proofs.digits.length_end.Tie as tie
 colon-at : (c : tie.Else1) → getD (textIn (c .before .before .args .text .now)) (c .before .before .args .at) 256 ≡ 58
 colon-at c = sym (c .before .byte-at .ensures) ∙ c .if1 .left
 
-digits-place : (c : tie.Else2) → let d = c .before .before in Place (textIn (d .before .before .before .args .text .now)) (d .digits-from .result .end)
+digits-place : (c : tie.Else2) → let d = c .before .before in
+    Place (textIn (d .before .before .before .args .text .now)) (d .digits-from .result .end)
 digits-place c =
     let d = c .before .before in
     let s = d .before .before .before in
     record { within = d .digits-from .ensures .ends .within; in-memory = s .pre .1 .in-memory }
 
-point-at : (c : tie.Else2) → let d = c .before .before in getD (textIn (d .before .before .before .args .text .now)) (d .digits-from .result .end) 256 ≡ 46
+point-at : (c : tie.Else2) → let d = c .before .before in
+    getD (textIn (d .before .before .before .args .text .now)) (d .digits-from .result .end) 256 ≡ 46
 point-at c = sym (c .before .byte-at2 .ensures) ∙ c .if2 .left
 
 byte-at-requires : tie.Need-byte-at-requires

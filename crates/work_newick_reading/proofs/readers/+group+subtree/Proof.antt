@@ -1,5 +1,5 @@
--- `group` and `subtree` meet their contracts: each step of a group is what the definition reads there, and is noted. The measure is the text
--- left, and `subtree` is below `group` at the same place.
+-- `group` and `subtree` meet their contracts: each step of a group is what the definition reads there, and is noted. The measure is the
+-- text left, and `subtree` is below `group` at the same place.
 use Prim.Native.Nat.{ℕ, suc, _+_, _*_, _-_, _<_}
 use mathlib.Core.Path.{_≡_, refl, sym, ap, _∙_}
 use native.Mathlib.Omega.{arith}
@@ -52,17 +52,44 @@ subtree-below t = and 3 subtree-kinds.ps (falls 3 subtree-kinds.ps _<_ μ-subtre
 -- ---- what is known in `group`
 
 abbrev GroupStart : ℕ → Type 0
-GroupStart t = group-lts.Start (open-one-reads.Asked, open-one-reads.Learnt, subtree-below t, subtree.Post, byte-at-reads.Asked, byte-at-reads.Learnt, last-object-reads.Asked, last-object-reads.Learnt, close-one-reads.Asked, close-one-reads.Learnt, length-end-reads.Asked, length-end-reads.Learnt) (group-at t) group.Post
+GroupStart t = group-lts.Start (
+  open-one-reads.Asked,
+  open-one-reads.Learnt,
+  subtree-below t,
+  subtree.Post,
+  byte-at-reads.Asked,
+  byte-at-reads.Learnt,
+  last-object-reads.Asked,
+  last-object-reads.Learnt,
+  close-one-reads.Asked,
+  close-one-reads.Learnt,
+  length-end-reads.Asked,
+  length-end-reads.Learnt,
+) (group-at t) group.Post
 
 begun : (t : ℕ) (s : GroupStart t) → Begun (textIn (s .args .text .now)) (s .args .at) (s .args .notes .now)
 begun t s = record { place = s .pre .1 .0; notes = s .pre .1 .1; few = s .pre .1 .2 }
 
 abbrev FirstThere : ℕ → Type 0
-FirstThere t = group-lts.Else1 (open-one-reads.Asked, open-one-reads.Learnt, subtree-below t, subtree.Post, byte-at-reads.Asked, byte-at-reads.Learnt, last-object-reads.Asked, last-object-reads.Learnt, close-one-reads.Asked, close-one-reads.Learnt, length-end-reads.Asked, length-end-reads.Learnt) (group-at t) group.Post
+FirstThere t = group-lts.Else1 (
+  open-one-reads.Asked,
+  open-one-reads.Learnt,
+  subtree-below t,
+  subtree.Post,
+  byte-at-reads.Asked,
+  byte-at-reads.Learnt,
+  last-object-reads.Asked,
+  last-object-reads.Learnt,
+  close-one-reads.Asked,
+  close-one-reads.Learnt,
+  length-end-reads.Asked,
+  length-end-reads.Learnt,
+) (group-at t) group.Post
 
 -- the first sentence was read
 first-there : (t : ℕ) (c : FirstThere t) → let s = c .before .before .before .before .before in
-    FirstIn (textIn (s .args .text .now)) (s .args .at) (s .args .notes .now) (c .before .subtree .last .1 .1 .0) (c .before .subtree .result)
+    FirstIn (textIn (s .args .text .now)) (s .args .at) (s .args .notes .now) (c .before .subtree .last .1 .1 .0)
+    (c .before .subtree .result)
 first-there t c =
     let f = c .before in
     let e = f .before .before in
@@ -70,7 +97,20 @@ first-there t c =
     (f .subtree .ensures) (c .if1 .left)
 
 abbrev CommaThere : ℕ → Type 0
-CommaThere t = group-lts.Else2 (open-one-reads.Asked, open-one-reads.Learnt, subtree-below t, subtree.Post, byte-at-reads.Asked, byte-at-reads.Learnt, last-object-reads.Asked, last-object-reads.Learnt, close-one-reads.Asked, close-one-reads.Learnt, length-end-reads.Asked, length-end-reads.Learnt) (group-at t) group.Post
+CommaThere t = group-lts.Else2 (
+  open-one-reads.Asked,
+  open-one-reads.Learnt,
+  subtree-below t,
+  subtree.Post,
+  byte-at-reads.Asked,
+  byte-at-reads.Learnt,
+  last-object-reads.Asked,
+  last-object-reads.Learnt,
+  close-one-reads.Asked,
+  close-one-reads.Learnt,
+  length-end-reads.Asked,
+  length-end-reads.Learnt,
+) (group-at t) group.Post
 
 -- a comma follows it
 comma-there : (t : ℕ) (c : CommaThere t) → let f = c .before .before .before in let s = f .before .before .before .before in
@@ -78,7 +118,20 @@ comma-there : (t : ℕ) (c : CommaThere t) → let f = c .before .before .before
 comma-there t c = sym (c .before .byte-at .ensures) ∙ c .if2 .left
 
 abbrev SecondThere : ℕ → Type 0
-SecondThere t = group-lts.Else3 (open-one-reads.Asked, open-one-reads.Learnt, subtree-below t, subtree.Post, byte-at-reads.Asked, byte-at-reads.Learnt, last-object-reads.Asked, last-object-reads.Learnt, close-one-reads.Asked, close-one-reads.Learnt, length-end-reads.Asked, length-end-reads.Learnt) (group-at t) group.Post
+SecondThere t = group-lts.Else3 (
+  open-one-reads.Asked,
+  open-one-reads.Learnt,
+  subtree-below t,
+  subtree.Post,
+  byte-at-reads.Asked,
+  byte-at-reads.Learnt,
+  last-object-reads.Asked,
+  last-object-reads.Learnt,
+  close-one-reads.Asked,
+  close-one-reads.Learnt,
+  length-end-reads.Asked,
+  length-end-reads.Learnt,
+) (group-at t) group.Post
 
 -- the second sentence was read
 second-there : (t : ℕ) (c : SecondThere t) → let e = c .before .before .before .before .before in let f = e .before .before .before in
@@ -92,7 +145,20 @@ second-there t c =
     (g .subtree2 .ensures) (c .if3 .left)
 
 abbrev EndThere : ℕ → Type 0
-EndThere t = group-lts.Else4 (open-one-reads.Asked, open-one-reads.Learnt, subtree-below t, subtree.Post, byte-at-reads.Asked, byte-at-reads.Learnt, last-object-reads.Asked, last-object-reads.Learnt, close-one-reads.Asked, close-one-reads.Learnt, length-end-reads.Asked, length-end-reads.Learnt) (group-at t) group.Post
+EndThere t = group-lts.Else4 (
+  open-one-reads.Asked,
+  open-one-reads.Learnt,
+  subtree-below t,
+  subtree.Post,
+  byte-at-reads.Asked,
+  byte-at-reads.Learnt,
+  last-object-reads.Asked,
+  last-object-reads.Learnt,
+  close-one-reads.Asked,
+  close-one-reads.Learnt,
+  length-end-reads.Asked,
+  length-end-reads.Learnt,
+) (group-at t) group.Post
 
 -- a closing parenthesis follows it
 end-there : (t : ℕ) (c : EndThere t) → let g = c .before .before .before in
@@ -379,13 +445,23 @@ group-returns-5 t c =
 -- ---- the needs of `subtree`
 
 abbrev ParenthesisThere : ℕ → Type 0
-ParenthesisThere t = subtree-lts.Else1 (byte-at-reads.Asked, byte-at-reads.Learnt, leaf-reads.Asked, leaf-reads.Learnt, open-groups-reads.Asked, open-groups-reads.Learnt, group-below t, group.Post) (subtree-at t) subtree.Post
+ParenthesisThere t = subtree-lts.Else1 (
+  byte-at-reads.Asked,
+  byte-at-reads.Learnt,
+  leaf-reads.Asked,
+  leaf-reads.Learnt,
+  open-groups-reads.Asked,
+  open-groups-reads.Learnt,
+  group-below t,
+  group.Post,
+) (subtree-at t) subtree.Post
 
 -- behind the parenthesis
 group-place : (t : ℕ) (c : ParenthesisThere t) → let s = c .before .before in Place (textIn (s .args .text .now)) (s .args .at + 1)
 group-place t c =
     let s = c .before .before in
-    place-behind (textIn (s .args .text .now)) (s .args .at) 40 (s .pre .1 .0) (sym (c .before .byte-at .ensures) ∙ c .if1 .left) (omega arith)
+    place-behind (textIn (s .args .text .now)) (s .args .at) 40 (s .pre .1 .0) (sym (c .before .byte-at .ensures) ∙ c .if1 .left)
+    (omega arith)
 
 subtree-byte-at-requires : (t : ℕ) → subtree-lts.Need-byte-at-requires (
   byte-at-reads.Asked,

@@ -47,7 +47,8 @@ returns-3 c =
     let text = textIn (s .args .text .now) in
     let b = e .before .before .byte-at .ensures in
     let read = leaf-read text (s .args .at) (rw b at (e .before .if1 .left)) (rw b at (e .if2 .left)) (s .args .notes .now) (s .pre .1)
-    (d .digits-from .result .end) (d .digits-from .result .leaf) (c .length-end .result) (d .digits-from .ensures) (c .length-end .ensures) in
+    (d .digits-from .result .end) (d .digits-from .result .leaf) (c .length-end .result) (d .digits-from .ensures)
+    (c .length-end .ensures) in
     rw (n .note-leaf .ensures) read
 
 pub leaf-spec : {M : Type 1} → statement M
