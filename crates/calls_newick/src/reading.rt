@@ -4,7 +4,7 @@ ghost use Rattle.record_fields.specs.Refused.{refused};
 ghost use Rattle.calls_newick.specs.Calls.{NewickReads};
 use crate::answers::NewickRead;
 use record_fields::refusal::GRAMMAR;
-use record_fields::refusal::NUMBERED;
+use record_fields::refusal::LEAVES;
 use record_fields::refusal::ROOM;
 use record_fields::refusal::refused;
 
@@ -28,10 +28,10 @@ pub fn newick_read(text: &[u8], out: &mut [u16]) -> NewickRead
     }
     let n = work_newick_reading::leaf_count(&notes);
     if n == 0 {
-        return no_text(NUMBERED);
+        return no_text(LEAVES);
     }
     if !work_newick_reading::leaves_once(&notes, n) {
-        return no_text(NUMBERED);
+        return no_text(LEAVES);
     }
     if out.len() < 2 * (n as usize - 1) {
         return no_text(ROOM);

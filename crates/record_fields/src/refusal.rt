@@ -63,4 +63,4 @@ pub const HANDS: u16 = 17;
 // a text breaks the grammar of Newick text
 pub const GRAMMAR: u16 = 18;
 // a text's leaves aren't 1 to n, each once, or n is above 512
-pub const NUMBERED: u16 = 19;
+pub const LEAVES: u16 = 19;
