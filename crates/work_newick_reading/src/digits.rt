@@ -7,6 +7,25 @@ ghost use Rattle.newick.specs.Reading.{isDigit, lengthIn};
 ghost use Rattle.work_newick_reading.specs.Text.{Place, textIn};
 ghost use Rattle.work_newick_reading.specs.Reads.{DigitsEnd, LengthEnds};
 
+// the bytes that mean something in a text, beside the digits 0 to 9, as `byte_at` tells them
+pub const OPENING: u16 = b'(' as u16;
+
+pub const CLOSING: u16 = b')' as u16;
+
+pub const COMMA: u16 = b',' as u16;
+
+pub const POINT: u16 = b'.' as u16;
+
+pub const COLON: u16 = b':' as u16;
+
+pub const SEMICOLON: u16 = b';' as u16;
+// the digits that a leaf number may begin with
+pub const ONE: u16 = b'1' as u16;
+
+pub const NINE: u16 = b'9' as u16;
+// what `byte_at` tells past the end of a text
+const NO_BYTE: u16 = 256;
+
 // Where digits end, and the leaf number that they say, or 0 where it is above 512.
 pub struct DigitsRead {
     pub end: usize,
@@ -26,7 +45,7 @@ pub fn byte_at(text: &[&[u8]; 1], at: usize) -> u16
 {
     let t = text[0];
     if t.len() <= at {
-        return 256;
+        return NO_BYTE;
     }
     wide(t[at])
 }
@@ -35,10 +54,10 @@ pub fn byte_at(text: &[&[u8]; 1], at: usize) -> u16
 fn is_digit(x: u8) -> bool
     ensures { λ r. ⌜ r ≡ isDigit x ⌝ }
 {
-    if x < 48 {
+    if x < b'0' {
         return false;
     }
-    x <= 57
+    x <= b'9'
 }
 
 // A number with one digit more; one that is above 512 stays so, whatever follows.
@@ -48,10 +67,10 @@ fn with_digit(x: u16, digit: u8) -> u16
     ensures { λ r. ⌜ (x ≤ 512 → r ≡ 10 * x + (digit - 48)) ⌝ }
     ensures { λ r. ⌜ (513 ≤ x → r ≡ x) ⌝ }
 {
-    if 512 < x {
+    if 513 <= x {
         return x;
     }
-    10 * x + wide(digit - 48)
+    10 * x + wide(digit - b'0')
 }
 
 // The leaf number as it is noted: 0 where it is above 512.
@@ -93,11 +112,11 @@ pub fn length_end(text: &[&[u8]; 1], at: usize) -> usize
     requires { ⌜ (1 ≤ at) × Place (textIn (now text)) at ⌝ }
     ensures { λ r. ⌜ LengthEnds (lengthIn (drop at (textIn (now (text .entry))))) (textIn (now (text .entry))) at r ⌝ }
 {
-    if byte_at(text, at) != 58 {
+    if byte_at(text, at) != COLON {
         return at;
     }
     let whole = digits_from(text, at + 1).end;
-    if byte_at(text, whole) != 46 {
+    if byte_at(text, whole) != POINT {
         if whole == at + 1 {
             return 0;
         }

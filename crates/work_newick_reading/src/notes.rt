@@ -17,6 +17,11 @@ const LAST_AT: usize = 1023;
 // where it stands how many groups are open
 const OPEN_AT: usize = 1024;
 
+// how many rows are noted: those of the first groups that close
+const MOST_ROWS: u16 = 511;
+// the object of the group that closes first; leaves are below it
+const FIRST_GROUP: u16 = 1024;
+
 // How many groups are open.
 pub fn open_groups(notes: &[u16; 1025]) -> u16
     requires { ⌜ length (now notes) ≡ 1025 ⌝ }
@@ -56,12 +61,12 @@ pub fn close_one(notes: &mut [u16; 1025], first: u16)
 {
     notes[OPEN_AT] = notes[OPEN_AT] - 1;
     let k = notes[CLOSED_AT];
-    if k < 511 {
+    if k < MOST_ROWS {
         let at = 2 * (k as usize);
         notes[at] = first;
         notes[at + 1] = notes[LAST_AT];
         notes[CLOSED_AT] = k + 1;
-        notes[LAST_AT] = 1024 + k;
+        notes[LAST_AT] = FIRST_GROUP + k;
         return;
     }
     notes[CLOSED_AT] = 512;
@@ -84,7 +89,7 @@ fn fixed_entry(x: u16, n: u16) -> u16
     requires { ⌜ n ≤ 512 ⌝ }
     ensures { λ r. ⌜ r ≡ fixed n x ⌝ }
 {
-    if x < 1024 { x } else { n + (x - 1023) }
+    if x < FIRST_GROUP { x } else { n + (x - 1023) }
 }
 
 // Writes the rows that were noted to the first places of a buffer, over n leaves.

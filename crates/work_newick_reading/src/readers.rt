@@ -6,6 +6,11 @@ ghost use Rattle.newick.specs.Reading.{leafIn, groupBy, subtreeIn};
 ghost use Rattle.work_newick_reading.specs.Text.{Place, textIn};
 ghost use Rattle.work_newick_reading.specs.Notes.{Notes, openIn};
 ghost use Rattle.work_newick_reading.specs.Reads.{Reads};
+use crate::digits::CLOSING;
+use crate::digits::COMMA;
+use crate::digits::NINE;
+use crate::digits::ONE;
+use crate::digits::OPENING;
 use crate::digits::byte_at;
 use crate::digits::digits_from;
 use crate::digits::length_end;
@@ -14,6 +19,9 @@ use crate::notes::last_object;
 use crate::notes::note_leaf;
 use crate::notes::open_groups;
 use crate::notes::open_one;
+
+// the most groups that may be open at once
+const MOST_OPEN: u16 = 511;
 
 // A leaf number and its length at a place: the place after them, or 0 where none stands there.
 fn leaf(text: &[&[u8]; 1], at: usize, notes: &mut [u16; 1025]) -> usize
@@ -29,10 +37,10 @@ fn leaf(text: &[&[u8]; 1], at: usize, notes: &mut [u16; 1025]) -> usize
         ⌝ }
 {
     let first = byte_at(text, at);
-    if first < 49 {
+    if first < ONE {
         return 0;
     }
-    if 57 < first {
+    if NINE < first {
         return 0;
     }
     let number = digits_from(text, at);
@@ -53,10 +61,10 @@ pub fn subtree(text: &[&[u8]; 1], at: usize, notes: &mut [u16; 1025]) -> usize
         r
         ⌝ }
 {
-    if byte_at(text, at) != 40 {
+    if byte_at(text, at) != OPENING {
         return leaf(text, at, notes);
     }
-    if open_groups(notes) == 511 {
+    if open_groups(notes) == MOST_OPEN {
         return 0;
     }
     group(text, at + 1, notes)
@@ -80,7 +88,7 @@ fn group(text: &[&[u8]; 1], at: usize, notes: &mut [u16; 1025]) -> usize
     if comma == 0 {
         return 0;
     }
-    if byte_at(text, comma) != 44 {
+    if byte_at(text, comma) != COMMA {
         return 0;
     }
     let first = last_object(notes);
@@ -88,7 +96,7 @@ fn group(text: &[&[u8]; 1], at: usize, notes: &mut [u16; 1025]) -> usize
     if end == 0 {
         return 0;
     }
-    if byte_at(text, end) != 41 {
+    if byte_at(text, end) != CLOSING {
         return 0;
     }
     close_one(notes, first);

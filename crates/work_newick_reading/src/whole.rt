@@ -4,6 +4,7 @@ ghost use lib.ListN.{length, drop, replicate};
 ghost use Prim.Native.Nat.{_≤_};
 ghost use Rattle.newick.specs.Reading.{isEnd, textRead};
 ghost use Rattle.work_newick_reading.specs.Reads.{ReadsWhole};
+use crate::digits::SEMICOLON;
 use crate::digits::byte_at;
 use crate::readers::subtree;
 
@@ -18,7 +19,7 @@ fn is_end(text: &[u8], at: usize) -> bool
     if at + 1 < text.len() {
         return false;
     }
-    text[at] == 10
+    text[at] == b'\n'
 }
 
 // Whether a text keeps the grammar. If it does, what it says is noted, where nothing was noted before.
@@ -31,7 +32,7 @@ pub fn read_text(text: &[u8], notes: &mut [u16; 1025]) -> bool
     if end == 0 {
         return false;
     }
-    if byte_at(&texts, end) != 59 {
+    if byte_at(&texts, end) != SEMICOLON {
         return false;
     }
     is_end(text, end + 1)
