@@ -1,4 +1,5 @@
 -- `is_end`: nothing, or one byte that is a line feed.
+use native.Mathlib.Omega.{arith}
 use Rattle.work_newick_reading.proofs.WholeLaws.{end-nothing, end-more, end-one}
 use borrow.Author.Needs.{needs}
 use Rattle.work_newick_reading.proofs.whole.is_end.Statement.{statement}
@@ -11,7 +12,9 @@ add-if2 : tie.Need-add-if2
 add-if2 c = search needs
 
 returns-2 : tie.Need-returns-2
-returns-2 c = end-more _ _ (c .if2 .taken)
+returns-2 c =
+    let s = c .before .before in
+    end-more (s .args .text .now) (s .args .at) (omega (arith, c .if2 .taken))
 
 shared-slice-read-result : tie.Need-shared-slice-read-result
 shared-slice-read-result c = search needs
@@ -20,7 +23,7 @@ returns-3 : tie.Need-returns-3
 returns-3 c =
     let e = c .before in
     let s = e .before .before in
-    end-one (s .args .text .now) (s .args .at) (s .pre) (e .before .if1 .left) (e .if2 .left)
+    end-one (s .args .text .now) (s .args .at) (s .pre) (e .before .if1 .left) (omega (arith, e .if2 .left))
 
 pub is-end-spec : {M : Type 1} → statement M
 is-end-spec = tie.close (tie.spec returns add-if2 returns-2 shared-slice-read-result returns-3)
