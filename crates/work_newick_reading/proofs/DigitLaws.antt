@@ -50,7 +50,6 @@ digits-none x xs h = (rw h refl, rw h refl)
 pub record Stands (x v : ℕ) : Type 0 where
   pub small : v ≤ 512 → x ≡ v
   pub large : 513 ≤ v → 513 ≤ x
-  pub bounded : x ≤ 5129
 
 -- at place `at`, where the digits before it say v
 pub record DigitsTo (text : List ℕ) (from x at : ℕ) : Type 0 where
@@ -65,7 +64,7 @@ module _ (text : List ℕ) (from : ℕ) where
   pub digits-start : from ≤ length text → DigitsTo text from 0 from
   digits-start h = record {
     so-far = 0;
-    stands = record { small = λ p. refl; large = λ p. omega arith; bounded = omega arith };
+    stands = record { small = λ p. refl; large = λ p. omega arith };
     value-left = refl;
     past-left = refl;
     ahead = omega arith;
@@ -74,9 +73,9 @@ module _ (text : List ℕ) (from : ℕ) where
 
   -- one digit more
   pub digits-step : (x at r : ℕ) → DigitsTo text from x at → at < length text → isDigit (getD text at 0) ≡ true →
-      r ≤ 5129 → (x ≤ 512 → r ≡ 10 * x + (getD text at 0 - 48)) → (513 ≤ x → r ≡ x) → DigitsTo text from r (at + 1)
+      (x ≤ 512 → r ≡ 10 * x + (getD text at 0 - 48)) → (513 ≤ x → r ≡ x) → DigitsTo text from r (at + 1)
   unfolding valueFrom
-  digits-step x at r d h is most small large =
+  digits-step x at r d h is small large =
       let b = getD text at 0 in
       let v = d .so-far in
       let there = text-at text at h in
@@ -87,7 +86,6 @@ module _ (text : List ℕ) (from : ℕ) where
         stands = record {
           small = λ p. let e = st .small (omega arith) in small (omega arith) ∙ ap (λ z. 10 * z + (b - 48)) e;
           large = λ p. go p (decLe v 512);
-          bounded = most;
         };
         value-left = ap (valueFrom v) (sym (ap digits there ∙ more .0)) ∙ d .value-left;
         past-left = sym (ap pastDigits there ∙ more .1) ∙ d .past-left;

@@ -62,8 +62,7 @@ fn is_digit(x: u8) -> bool
 
 // A number with one digit more; one that is above 512 stays so, whatever follows.
 fn with_digit(x: u16, digit: u8) -> u16
-    requires { ⌜ (48 ≤ digit) × (digit ≤ 57) × (x ≤ 5129) ⌝ }
-    ensures { λ r. ⌜ (r ≤ 5129) ⌝ }
+    requires { ⌜ (48 ≤ digit) × (digit ≤ 57) ⌝ }
     ensures { λ r. ⌜ (x ≤ 512 → r ≡ 10 * x + (digit - 48)) ⌝ }
     ensures { λ r. ⌜ (513 ≤ x → r ≡ x) ⌝ }
 {

@@ -58,9 +58,7 @@ returns c =
 
 with-digit-requires : tie.Need-with-digit-requires Inv-loop μ-loop
 with-digit-requires c κs =
-    let r = is-one c in
-    let most = c .before .before .before .before .loop .inv .stands .bounded in
-    (r .0, r .1, most)
+    is-one c
 
 add-at : tie.Need-add-at Inv-loop μ-loop
 add-at c =
@@ -75,7 +73,7 @@ loop-again c =
     let l = c .before .before .before .before in
     let text = textIn (l .before .before .before .args .text .now) in
     let w = c .with-digit .ensures in
-    digits-step text _ _ _ _ (l .before .loop .inv) (l .loop-test .taken) (is-true (c .before)) (w .0) (w .1 .0) (w .1 .1)
+    digits-step text _ _ _ _ (l .before .loop .inv) (l .loop-test .taken) (is-true (c .before)) (w .0) (w .1)
 
 noted-requires-2 : tie.Need-noted-requires-2 Inv-loop μ-loop
 noted-requires-2 c κs = search needs
