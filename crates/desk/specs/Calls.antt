@@ -5,10 +5,12 @@ use lib.ListN.{getD}
 use Rattle.desk_words.specs.Words.{placeOf}
 use Rattle.desk.specs.declared.calls.Call.{Call}
 use Rattle.desk.specs.declared.calls.Call.the-variants.{Check, Order, Count, Pairs, Entanglement, Free, Run}
-use Rattle.desk.specs.declared.calls.Call.the-variants.{Hands, Better, BetterCheck, Hold, Pack, Unpack, NoCall}
+use Rattle.desk.specs.declared.calls.Call.the-variants.{Hands, Better, BetterCheck, Hold, Pack, Unpack}
+use Rattle.desk.specs.declared.calls.Call.the-variants.{NewickRead, NewickWrite, NoCall}
 
 -- The names, as bytes: check, order, count, pairs, entanglement, free, run,
--- hands, better, better_check, hold, pack, unpack.
+-- hands, better, better_check, hold, pack, unpack,
+-- newick_read, newick_write.
 unfoldable pub names : List (List ℕ)
 names =
     (99 ∷ 104 ∷ 101 ∷ 99 ∷ 107 ∷ []) ∷
@@ -24,12 +26,14 @@ names =
     (104 ∷ 111 ∷ 108 ∷ 100 ∷ []) ∷
     (112 ∷ 97 ∷ 99 ∷ 107 ∷ []) ∷
     (117 ∷ 110 ∷ 112 ∷ 97 ∷ 99 ∷ 107 ∷ []) ∷
+    (110 ∷ 101 ∷ 119 ∷ 105 ∷ 99 ∷ 107 ∷ 95 ∷ 114 ∷ 101 ∷ 97 ∷ 100 ∷ []) ∷
+    (110 ∷ 101 ∷ 119 ∷ 105 ∷ 99 ∷ 107 ∷ 95 ∷ 119 ∷ 114 ∷ 105 ∷ 116 ∷ 101 ∷ []) ∷
     []
 
 -- The calls in the order of their names.
 unfoldable pub calls : List Call
 calls = Check ∷ Order ∷ Count ∷ Pairs ∷ Entanglement ∷ Free ∷ Run ∷
-    Hands ∷ Better ∷ BetterCheck ∷ Hold ∷ Pack ∷ Unpack ∷ []
+    Hands ∷ Better ∷ BetterCheck ∷ Hold ∷ Pack ∷ Unpack ∷ NewickRead ∷ NewickWrite ∷ []
 
 -- The call of a name.
 unfoldable pub callNamed : List ℕ → Call
@@ -50,6 +54,8 @@ wordsOf BetterCheck = 5
 wordsOf Hold = 3
 wordsOf Pack = 9
 wordsOf Unpack = 7
+wordsOf NewickRead = 3
+wordsOf NewickWrite = 4
 wordsOf NoCall = 0
 
 -- Which of them says the bytes that it is lent.
@@ -67,4 +73,6 @@ lentBy BetterCheck = 1
 lentBy Hold = 1
 lentBy Pack = 8
 lentBy Unpack = 1
+lentBy NewickRead = 1
+lentBy NewickWrite = 1
 lentBy NoCall = 1

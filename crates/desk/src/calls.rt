@@ -17,6 +17,8 @@ pub enum Call {
     Hold,
     Pack,
     Unpack,
+    NewickRead,
+    NewickWrite,
     NoCall,
 }
 
@@ -25,7 +27,8 @@ pub fn named(name: &[u8]) -> Call
     ensures { λ r. ⌜ r ≡ callNamed (now (name .entry)) ⌝ }
 {
     let names =
-        b"check order count pairs entanglement free run hands better better_check hold pack unpack";
+        b"check order count pairs entanglement free run hands better better_check hold pack unpack \
+          newick_read newick_write";
     match place(names, name) {
         0 => Call::Check,
         1 => Call::Order,
@@ -40,6 +43,8 @@ pub fn named(name: &[u8]) -> Call
         10 => Call::Hold,
         11 => Call::Pack,
         12 => Call::Unpack,
+        13 => Call::NewickRead,
+        14 => Call::NewickWrite,
         _ => Call::NoCall,
     }
 }
@@ -62,11 +67,13 @@ pub fn words(call: Call) -> usize
         Call::Hold => 3,
         Call::Pack => 9,
         Call::Unpack => 7,
+        Call::NewickRead => 3,
+        Call::NewickWrite => 4,
         Call::NoCall => 0,
     }
 }
 
-// Which word of a line says the bytes that the call is lent: RECORD, or pack's OUT.
+// Which word of a line says the bytes that the call is lent: RECORD, TEXT, or pack's OUT.
 pub fn lent(call: Call) -> usize
     ensures { λ r. ⌜ r ≡ lentBy call ⌝ }
 {

@@ -30,11 +30,13 @@ fn show(call: Call, line: &[u8], s: &[u8], xs: &mut [u16]) {
         Call::Better => showing::better(line, s, xs, false),
         Call::BetterCheck => showing::better(line, s, xs, true),
         Call::Unpack => desk_parts::unpack(line, s),
+        Call::NewickRead => desk_newick::newick_read(line, s, xs),
+        Call::NewickWrite => desk_newick::newick_write(line, s),
         _ => no_call(),
     }
 }
 
-// Makes any call, on the bytes that it is lent: its record, or the place that it packs one into.
+// Makes any call, on the bytes that it is lent: its record, its text, or the place that it packs a record into.
 fn make(call: Call, line: &[u8], s: &mut [u8], xs: &mut [u16]) {
     match call {
         Call::Free => changing::free(line, s),

@@ -8,13 +8,14 @@ use denote.Enum.Declared.{tagOf}
 use Rattle.desk.proofs.calls.Call as declared
 use Rattle.desk.specs.declared.calls.Call.{Call}
 use Rattle.desk.specs.declared.calls.Call.the-variants.{Check, Order, Count, Pairs, Entanglement, Free, Run}
-use Rattle.desk.specs.declared.calls.Call.the-variants.{Hands, Better, BetterCheck, Hold, Pack, Unpack, NoCall}
+use Rattle.desk.specs.declared.calls.Call.the-variants.{Hands, Better, BetterCheck, Hold, Pack, Unpack}
+use Rattle.desk.specs.declared.calls.Call.the-variants.{NewickRead, NewickWrite, NoCall}
 use Rattle.desk.specs.Calls.{lentBy}
 use Rattle.desk.proofs.calls.lent.Statement.{statement}
 use Rattle.desk.proofs.calls.lent.Tie as tie
 
 abbrev others : List ℕ
-others = 0 ∷ 1 ∷ 2 ∷ 3 ∷ 4 ∷ 5 ∷ 6 ∷ 7 ∷ 8 ∷ 9 ∷ 10 ∷ 12 ∷ 13 ∷ []
+others = 0 ∷ 1 ∷ 2 ∷ 3 ∷ 4 ∷ 5 ∷ 6 ∷ 7 ∷ 8 ∷ 9 ∷ 10 ∷ 12 ∷ 13 ∷ 14 ∷ 15 ∷ []
 
 others-are-lent : (k : Call) → OneOf others (tagOf declared.the-type k) → 1 ≡ lentBy k
 unfolding lentBy
@@ -31,6 +32,8 @@ others-are-lent BetterCheck h = refl
 others-are-lent Hold h = refl
 others-are-lent Pack h = absurd (miss others 11 tt h)
 others-are-lent Unpack h = refl
+others-are-lent NewickRead h = refl
+others-are-lent NewickWrite h = refl
 others-are-lent NoCall h = refl
 
 enum-told : tie.Need-enum-told

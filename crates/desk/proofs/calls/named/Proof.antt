@@ -80,9 +80,17 @@ returns-13 c = at-place 12 _ (sym (c .before .place .ensures) ∙ c .match .keys
 
 returns-14 : tie.Need-returns-14
 unfolding names pieces calls
-returns-14 c =
+returns-14 c = at-place 13 _ (sym (c .before .place .ensures) ∙ c .match .keys14)
+
+returns-15 : tie.Need-returns-15
+unfolding names pieces calls
+returns-15 c = at-place 14 _ (sym (c .before .place .ensures) ∙ c .match .keys15)
+
+returns-16 : tie.Need-returns-16
+unfolding names pieces calls
+returns-16 c =
     let k = c .before .place .result in
-    sym (List·getD-eq-default calls NoCall {n = k} (past k 13 (c .match .rest))) ∙ at-place k _ (sym (c .before .place .ensures))
+    sym (List·getD-eq-default calls NoCall {n = k} (past k 15 (c .match .rest))) ∙ at-place k _ (sym (c .before .place .ensures))
 
 pub named-spec : {M : Type 1} → statement M
 named-spec =
@@ -102,4 +110,6 @@ named-spec =
     returns-11
     returns-12
     returns-13
-    returns-14)
+    returns-14
+    returns-15
+    returns-16)

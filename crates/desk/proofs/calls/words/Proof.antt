@@ -46,6 +46,12 @@ enum-told-13 c = search needs
 enum-told-14 : tie.Need-enum-told-14
 enum-told-14 c = search needs
 
+enum-told-15 : tie.Need-enum-told-15
+enum-told-15 c = search needs
+
+enum-told-16 : tie.Need-enum-told-16
+enum-told-16 c = search needs
+
 returns : tie.Need-returns
 unfolding wordsOf
 returns c = rw (c .enum-told .given .1)
@@ -102,6 +108,14 @@ returns-14 : tie.Need-returns-14
 unfolding wordsOf
 returns-14 c = rw (c .enum-told14 .given .1)
 
+returns-15 : tie.Need-returns-15
+unfolding wordsOf
+returns-15 c = rw (c .enum-told15 .given .1)
+
+returns-16 : tie.Need-returns-16
+unfolding wordsOf
+returns-16 c = rw (c .enum-told16 .given .1)
+
 pub words-spec : {M : Type 1} → statement M
 words-spec =
     tie.close
@@ -120,6 +134,8 @@ words-spec =
     enum-told-12
     enum-told-13
     enum-told-14
+    enum-told-15
+    enum-told-16
     returns
     returns-2
     returns-3
@@ -133,4 +149,6 @@ words-spec =
     returns-11
     returns-12
     returns-13
-    returns-14)
+    returns-14
+    returns-15
+    returns-16)
