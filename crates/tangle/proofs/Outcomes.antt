@@ -47,4 +47,10 @@ outcomes-for-c = record {
       (equal-to-one (g .called .afterwards-links) (h .called .afterwards-links))
       (equal-to-one (g .called .afterwards-left-layout) (h .called .afterwards-left-layout))
       (equal-to-one (g .called .afterwards-right-layout) (h .called .afterwards-right-layout));
+  newick-read =
+      λ text out a b x y g h.
+      (alike (λ _ _ p q. equal-to-one (p .answers) (q .answers)) g h, equal-to-one (g .called .afterwards) (h .called .afterwards));
+  newick-write =
+      λ s side out a b x y g h.
+      (alike (λ _ _ p q. equal-to-one (p .answers) (q .answers)) g h, equal-to-one (g .called .afterwards) (h .called .afterwards));
 }

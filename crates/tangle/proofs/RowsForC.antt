@@ -15,6 +15,7 @@ use Rattle.calls_show.proofs.Outcomes.{order-own, entangled-told}
 use Rattle.calls_turns.proofs.Turns.{free-own, run-own}
 use Rattle.calls_hands.proofs.HandLists.{hands-own}
 use Rattle.calls_better.proofs.Compared.{compare-own}
+use Rattle.calls_newick.proofs.Outcomes.{write-own}
 use Rattle.tangle.specs.declared.answers.TangleRefusal.{TangleRefusal}
 use Rattle.tangle.specs.ForC.{Gives, refusalForC, entanglementForC}
 use Rattle.tangle.specs.RowsForC.{RowsForC}
@@ -65,4 +66,9 @@ rows-for-c = record {
       λ s left right links left-layout right-layout o g.
       in-form (λ x. x .refusal) (λ x. x .row)
       (λ a p. tells-row s (unpack-own s left right links left-layout right-layout refl) (ap (λ c. c .refusal) (p .answers))) g;
+  newick-read =
+      λ text out answer out′ g. ap (λ x. x .row) (g .answers) ∙ ap (λ c. c .refusal .row) (g .called .answers);
+  newick-write =
+      λ s side out answer out′ g.
+      in-form (λ x. x .refusal) (λ x. x .row) (λ a p. tells-row s (write-own s side out refl) (ap (λ c. c .refusal) (p .answers))) g;
 }

@@ -25,6 +25,9 @@ use Rattle.calls_turns.proofs.Turns.{freeing-13}
 use Rattle.calls_better.specs.declared.answers.Compared.{Compared}
 use Rattle.calls_better.specs.Calls.{betterWhich, Compares, BetterChecks}
 use Rattle.calls_better.proofs.Compared.{comparing-13}
+use Rattle.calls_newick.specs.declared.answers.NewickWritten.{NewickWritten}
+use Rattle.calls_newick.specs.Calls.{NewickWrites}
+use Rattle.calls_newick.proofs.Outcomes.{writing-13}
 use Rattle.tangle.specs.Narrowed.{Narrowed}
 
 -- What is true of the narrow number is true of the wide one, if beyond the limit it follows from what is true of 0.
@@ -74,6 +77,12 @@ module _ {side k : ℕ} (w : Narrowed 65536 side k) where
       let z = comparing-13 s 0 first second zero-no-side in
       let e = comparing-13 s side first second no in
       record { answers = p .answers ∙ ap (toldOf s) (sym z ∙ e) })
+
+  pub newick-write-wide : {s out out′ : List ℕ} {a : NewickWritten} → NewickWrites s k out a out′ → NewickWrites s side out a out′
+  newick-write-wide {s} {out} {out′} {a} = by-side (λ x. NewickWrites s x out a out′) (λ no p.
+      let z = writing-13 s 0 out zero-no-side in
+      let e = writing-13 s side out no in
+      record { answers = rw e (rw z at (p .answers)); afterwards = rw e (rw z at (p .afterwards)) })
 
 -- ---- hold letters
 

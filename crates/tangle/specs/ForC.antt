@@ -23,6 +23,9 @@ use Rattle.calls_hands.specs.Refusals.{Hand}
 use Rattle.calls_hands.specs.Calls.{Hands}
 use Rattle.calls_better.specs.declared.answers.Compared.{Compared}
 use Rattle.calls_better.specs.Calls.{Compares, BetterChecks}
+use Rattle.calls_newick.specs.declared.answers.NewickRead.{NewickRead}
+use Rattle.calls_newick.specs.declared.answers.NewickWritten.{NewickWritten}
+use Rattle.calls_newick.specs.Calls.{NewickReads, NewickWrites}
 use Rattle.tangle.specs.declared.answers.TangleRefusal.{TangleRefusal}
 use Rattle.tangle.specs.declared.answers.TangleCount.{TangleCount}
 use Rattle.tangle.specs.declared.answers.TangleEntanglement.{TangleEntanglement}
@@ -30,6 +33,8 @@ use Rattle.tangle.specs.declared.answers.TangleFree.{TangleFree}
 use Rattle.tangle.specs.declared.answers.TangleRun.{TangleRun}
 use Rattle.tangle.specs.declared.answers.TangleBetter.{TangleBetter}
 use Rattle.tangle.specs.declared.answers.TangleUnpack.{TangleUnpack}
+use Rattle.tangle.specs.declared.answers.TangleNewickRead.{TangleNewickRead}
+use Rattle.tangle.specs.declared.answers.TangleNewickWrite.{TangleNewickWrite}
 
 -- The answer is a form of one that a call may give.
 pub record Gives {A B : Type 0} (call : A → Type 0) (form : A → B) (answer : B) : Type 0 where
@@ -124,3 +129,19 @@ UnpacksForC s left right links left-layout right-layout answer left′ right′ 
     Gives
     (λ a. Unpacks s left right links left-layout right-layout a left′ right′ links′ left-layout′ right-layout′)
     unpackForC answer
+
+-- ---- reading a text
+
+abbrev pub newickReadForC : NewickRead → TangleNewickRead
+newickReadForC a = record { refusal = a .refusal .number; row = a .refusal .row; n = a .n }
+
+abbrev pub NewickReadsForC : List ℕ → List ℕ → TangleNewickRead → List ℕ → Type 0
+NewickReadsForC text out answer out′ = Gives (λ a. NewickReads text out a out′) newickReadForC answer
+
+-- ---- writing a text
+
+abbrev pub newickWriteForC : NewickWritten → TangleNewickWrite
+newickWriteForC a = record { refusal = a .refusal .number; row = a .refusal .row; length = a .length }
+
+abbrev pub NewickWritesForC : List ℕ → ℕ → List ℕ → TangleNewickWrite → List ℕ → Type 0
+NewickWritesForC s side out answer out′ = Gives (λ a. NewickWrites s side out a out′) newickWriteForC answer

@@ -7,7 +7,7 @@ use Rattle.record_fields.specs.Fixes.{Fixes, FixesBoth}
 use Rattle.calls_hands.specs.Refusals.{Hand}
 use Rattle.tangle.specs.declared.answers.TangleUnpack.{TangleUnpack}
 use Rattle.tangle.specs.ForC.{ChecksForC, OrdersForC, SetsHoldForC, HandsForC, BetterChecksForC, PacksForC, CountsForC}
-use Rattle.tangle.specs.ForC.{EntanglesForC, FreesForC, RunsForC, ComparesForC, UnpacksForC}
+use Rattle.tangle.specs.ForC.{EntanglesForC, FreesForC, RunsForC, ComparesForC, UnpacksForC, NewickReadsForC, NewickWritesForC}
 
 -- What unpacking comes to: its answer, and what is in the five buffers afterwards.
 pub record UnpackOutcomeForC : Type 0 where
@@ -37,3 +37,5 @@ pub record OutcomesForC : Type 0 where
   pub hold : (s : List ℕ) (letter : ℕ) → FixesBoth (SetsHoldForC s letter)
   pub pack : (P : Parts) (out : List ℕ) → FixesBoth (PacksForC P out)
   pub unpack : (s left right links left-layout right-layout : List ℕ) → Fixes (UnpacksToForC s left right links left-layout right-layout)
+  pub newick-read : (text out : List ℕ) → FixesBoth (NewickReadsForC text out)
+  pub newick-write : (s : List ℕ) (side : ℕ) (out : List ℕ) → FixesBoth (NewickWritesForC s side out)

@@ -2,6 +2,7 @@
 -- it through every call that reads or packs one." Here for the calls for C, of the refusal and the row in an answer (`SaysRow`, in
 -- `record_fields/specs/Told`).
 use Prim.Native.Nat.{ℕ}
+use mathlib.Core.Path.{_≡_}
 use mathlib.Core.List.{List}
 use Rattle.record_fields.specs.Fields.{Parts, parts}
 use Rattle.record_fields.specs.Told.{SaysRow}
@@ -12,8 +13,10 @@ use Rattle.tangle.specs.declared.answers.TangleEntanglement.{TangleEntan
 use Rattle.tangle.specs.declared.answers.TangleFree.{TangleFree}
 use Rattle.tangle.specs.declared.answers.TangleRun.{TangleRun}
 use Rattle.tangle.specs.declared.answers.TangleBetter.{TangleBetter}
+use Rattle.tangle.specs.declared.answers.TangleNewickRead.{TangleNewickRead}
+use Rattle.tangle.specs.declared.answers.TangleNewickWrite.{TangleNewickWrite}
 use Rattle.tangle.specs.ForC.{ChecksForC, OrdersForC, SetsHoldForC, HandsForC, BetterChecksForC, PacksForC, CountsForC}
-use Rattle.tangle.specs.ForC.{EntanglesForC, FreesForC, RunsForC, ComparesForC}
+use Rattle.tangle.specs.ForC.{EntanglesForC, FreesForC, RunsForC, ComparesForC, NewickReadsForC, NewickWritesForC}
 use Rattle.tangle.specs.Outcomes.{UnpackOutcomeForC, UnpacksToForC}
 
 pub record RowsForC : Type 0 where
@@ -41,3 +44,8 @@ pub record RowsForC : Type 0 where
       SaysRow P (answer .refusal) (answer .row)
   pub unpack : (s left right links left-layout right-layout : List ℕ) (o : UnpackOutcomeForC) →
       UnpacksToForC s left right links left-layout right-layout o → SaysRow (parts s) (o .answer .refusal) (o .answer .row)
+  -- A text has no bad row.
+  pub newick-read : (text out : List ℕ) (answer : TangleNewickRead) (out′ : List ℕ) → NewickReadsForC text out answer out′ →
+      answer .row ≡ 0
+  pub newick-write : (s : List ℕ) (side : ℕ) (out : List ℕ) (answer : TangleNewickWrite) (out′ : List ℕ) →
+      NewickWritesForC s side out answer out′ → SaysRow (parts s) (answer .refusal) (answer .row)

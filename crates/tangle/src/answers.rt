@@ -64,3 +64,19 @@ pub struct TangleUnpack {
     pub hold: u32,
     pub n: u32,
 }
+
+// The refusal and its row, which is 0 since a text has no bad row, and how many leaves the text's tree has.
+#[repr(C)]
+pub struct TangleNewickRead {
+    pub refusal: u32,
+    pub row: u32,
+    pub n: u32,
+}
+
+// The refusal and its row, and how many bytes the text has.
+#[repr(C)]
+pub struct TangleNewickWrite {
+    pub refusal: u32,
+    pub row: u32,
+    pub length: u32,
+}
