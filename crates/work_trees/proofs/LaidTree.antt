@@ -1,9 +1,11 @@
 -- A tree with the two children of each row exchanged where a test of the row says so: the tree that rows with their entries exchanged
--- make (`Exchanged`). Laid out, each row's children stand as a layout turns them, and so do its leaves.
+-- make (`Exchanged`). It has as many leaves; laid out, each row's children stand as a layout turns them, and so do its leaves.
 use Prim.Native.Nat.{ℕ}
 use mathlib.Core.Path.{_≡_, refl, ap₂}
 use mathlib.Core.Bool.{Bool, true, false, cond}
 use mathlib.Core.List.{List, _++_}
+use native.Mathlib.Omega.{arith}
+use lib.ListN.{length, length-append}
 use Rattle.tanglegram.specs.Tree.{Tree, leaf, fork, leaves}
 use Rattle.tanglegram.specs.Order.{byte, turned, order}
 
@@ -19,6 +21,19 @@ exchangedTree g (fork i u l) =
 abbrev pub laidTree : List ℕ → Tree → Tree
 laidTree lay t = exchangedTree (λ i. turned (byte lay i)) t
 
+-- a tree so exchanged has as many leaves
+pub length-leaves-exchanged : (g : ℕ → Bool) (t : Tree) → length (leaves (exchangedTree g t)) ≡ length (leaves t)
+unfolding exchangedTree leaves
+length-leaves-exchanged g (leaf a) = refl
+length-leaves-exchanged g (fork i u l) = go (g i) (length-leaves-exchanged g u) (length-leaves-exchanged g l)
+  where
+    go : (b : Bool) → length (leaves (exchangedTree g u)) ≡ length (leaves u) → length (leaves (exchangedTree g l)) ≡ length (leaves l) →
+        length (leaves (cond b (fork i (exchangedTree g l) (exchangedTree g u)) (fork i (exchangedTree g u) (exchangedTree g l))))
+        ≡ length (leaves u ++ leaves l)
+    go true x y = simp length-append (omega arith)
+    go false x y = simp length-append (omega arith)
+
+-- laid out, they stand in the layout's order
 pub leaves-laid : (lay : List ℕ) (t : Tree) → leaves (laidTree lay t) ≡ order lay t
 unfolding exchangedTree leaves order
 leaves-laid lay (leaf a) = refl

@@ -5,6 +5,7 @@ pub mod Walked
 pub mod ByNumber
 pub mod LaidTree
 pub mod Exchanged
+pub mod RowNotes
 pub mod LeafCounts
 pub mod Laid
 pub mod Places
