@@ -1,26 +1,26 @@
 -- From what a call found to its statement.
-use Prim.Native.Nat.{ℕ, _-_, _*_, _≤_, _<_}
-use mathlib.Core.Path.{_≡_, refl, sym, ap, ap₂, _∙_}
+use Prim.Native.Nat.{ℕ, _≤_, _<_}
+use mathlib.Core.Path.{_≡_, refl, ap, _∙_}
 use mathlib.Core.Logic.{_≢_}
 use mathlib.Core.Bool.{Bool, true, false, cond, not}
-use mathlib.Core.List.{List, _++_, map}
+use mathlib.Core.List.{List}
 use native.Mathlib.Omega.{arith}
 use borrow.Author.Tests.{lt-ltb, le-ltb, ltb-false, ne-eqb}
 use lib.Dec.{ltb}
-use lib.ListN.{length, take, drop}
+use lib.ListN.{length}
 use lib.Seq.{sets}
 use Rattle.newick.specs.Sentence.{leafCount}
 use Rattle.newick.specs.Rows.{rowsOf}
 use Rattle.record_fields.specs.declared.refusal.Refusal.{Refusal}
-use Rattle.record_fields.specs.Fields.{sizeOf, parts}
-use Rattle.record_fields.specs.Refusals.{refusal, orElse}
-use Rattle.record_fields.specs.Refused.{refused, lent, orZero}
+use Rattle.record_fields.specs.Fields.{parts}
+use Rattle.record_fields.specs.Refusals.{refusal}
+use Rattle.record_fields.specs.Refused.{refused, orZero}
 use Rattle.record_fields.specs.Told.{toldOf, OwnRow}
 use Rattle.record_fields.proofs.Acceptance.{else-first, none-both}
 use Rattle.record_fields.proofs.Heading.{none-first, not-no}
-use Rattle.record_fields.proofs.Refused.{lent-refused, lent-accepted, zero-refused, zero-accepted}
+use Rattle.record_fields.proofs.Refused.{lent-refused, lent-accepted}
 use Rattle.record_fields.proofs.Stores.{sets-front}
-use Rattle.record_fields.proofs.Told.{told-none, told-alone, alone-when, alone-0, own-when, own-then}
+use Rattle.record_fields.proofs.Told.{told-alone, alone-when, alone-0, own-when, own-then}
 use Rattle.record_arrays.specs.Sides.{isSide}
 use Rattle.calls_newick.specs.declared.answers.NewickRead.{NewickRead}
 use Rattle.calls_newick.specs.declared.answers.NewickWritten.{NewickWritten}

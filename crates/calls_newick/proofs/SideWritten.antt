@@ -1,8 +1,7 @@
 -- A side of a record in memory, its layout applied, has the side's text; and how long a record's text is.
-use Prim.Native.Nat.{ℕ, _≤_, _<_}
-use mathlib.Core.Path.{_≡_, ap, _∙_}
+use Prim.Native.Nat.{ℕ, _≤_}
+use mathlib.Core.Path.{_≡_, ap}
 use mathlib.Core.List.{List, []}
-use native.Mathlib.Omega.{arith}
 use lib.ListN.{length}
 use Rattle.tanglegram.specs.Table.{layout}
 use Rattle.work_trees.specs.Rows.{treeOf}

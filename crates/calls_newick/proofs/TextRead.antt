@@ -1,19 +1,18 @@
 -- From the notes of a text that was read to what its sentence says: n, whether its leaves are 1 to n, and its rows.
-use Prim.Native.Nat.{ℕ, suc, _+_, _-_, _*_, _≤_, _<_}
-use mathlib.Core.Path.{_≡_, refl, sym, ap, ap₂, _∙_, subst}
+use Prim.Native.Nat.{ℕ, _+_, _-_, _*_, _≤_, _<_}
+use mathlib.Core.Path.{_≡_, refl, sym, ap, ap₂, _∙_}
 use mathlib.Core.Logic.{_≢_}
-use mathlib.Core.Bool.{Bool, true, false, cond, not, _&&_}
+use mathlib.Core.Bool.{Bool, true, false, cond, _&&_}
 use mathlib.Core.List.{List, [], _∷_, _++_, map, List·Permᴰ, List·Permᴰ·trans}
 use mathlib.Core.List.{Permᴰ·symm}
 use native.Mathlib.Decide.{ℕ-discrete, decLe}
-use native.Mathlib.Nat.{zero-add}
 use native.Mathlib.Omega.{arith}
 use borrow.Author.Tests.{eq-eqb, ne-eqb, le-leb, lt-leb}
 use lib.Dec.{eqb, leb}
 use lib.ListN.{length, take, replicate, getD-replicate, length-append}
 use Rattle.tanglegram.specs.Lists.{Each, range}
 use Rattle.tanglegram.proofs.Lists.{each-perm, range-each, length-perm}
-use Rattle.newick.specs.Sentence.{Sentence, number, group, groups, valueFrom, leafNumbers, leafCount, value}
+use Rattle.newick.specs.Sentence.{Sentence, number, group, groups, leafNumbers, leafCount, value}
 use Rattle.newick.specs.Reading.{Read, broken, read, textRead}
 use Rattle.newick.specs.Rows.{objectFrom, rowsFrom, leafObjects, rowsOf}
 use Rattle.newick.specs.Noted.{noted, notedLeaves, leavesIn, fixed}

@@ -1,5 +1,4 @@
 // A side of a record written as text, as its layout stands.
-ghost use mathlib.Core.Path.{_≡_};
 ghost use Rattle.record_arrays.specs.Sides.{RecordOver};
 ghost use Rattle.calls_newick.specs.Calls.{NewickWrites, WritesSide};
 use crate::answers::NewickWritten;

@@ -1,5 +1,5 @@
 -- Digits read one after the other, and the length that may stand behind a subtree.
-use Prim.Native.Nat.{ℕ, suc, _+_, _*_, _-_, _≤_, _<_}
+use Prim.Native.Nat.{ℕ, _+_, _*_, _-_, _≤_, _<_}
 use mathlib.Core.Path.{_≡_, refl, sym, ap, _∙_}
 use mathlib.Core.Bool.{Bool, true, false, cond, _&&_}
 use mathlib.Core.List.{List, [], _∷_}
@@ -11,7 +11,6 @@ use lib.ListN.{length, getD, drop}
 use Rattle.newick.specs.Sentence.{valueFrom, value}
 use Rattle.newick.specs.Reading.{isDigit, digits, pastDigits}
 use Rattle.newick.specs.Noted.{noted}
-use Rattle.work_newick_reading.specs.Text.{Ends}
 use Rattle.work_newick_reading.specs.Reads.{DigitsEnd}
 use Rattle.work_newick_reading.proofs.Text.{text-at, text-ended}
 

@@ -8,7 +8,7 @@ use native.Mathlib.Omega.{arith}
 use borrow.Author.Tests.{eq-eqb, ne-eqb}
 use lib.Dec.{eqb}
 use lib.ListN.{length, getD, drop, length-drop}
-use Rattle.newick.specs.Sentence.{none, whole, pointed}
+use Rattle.newick.specs.Sentence.{whole, pointed}
 use Rattle.newick.specs.Reading.{isDigit, digits, pastDigits, no-length, length-read, lengthBehind, lengthIn, head}
 use Rattle.work_newick_reading.specs.Reads.{DigitsEnd, LengthEnds}
 use Rattle.work_newick_reading.proofs.Text.{head-at, behind-at}

@@ -1,12 +1,12 @@
 -- What is noted of a leaf and of a group, from what was noted of its two sentences.
 use Prim.Native.Nat.{ℕ, suc, _+_, _-_, _*_, _≤_, _<_}
-use mathlib.Core.Path.{_≡_, refl, sym, ap, ap₂, _∙_}
+use mathlib.Core.Path.{_≡_, sym, ap, ap₂, _∙_}
 use mathlib.Core.List.{List, [], _∷_, _++_, append-assoc}
 use native.Mathlib.Decide.{decLt, decLe}
 use native.Mathlib.Nat.{add-zero}
 use native.Mathlib.Omega.{arith}
 use borrow.Author.Tests.{lt-ltb, le-ltb}
-use lib.ListN.{length, getD, set, take, length-set}
+use lib.ListN.{length, set, take, length-set}
 use lib.Seq.{getD-set-same, getD-set-other, take-set-le, take-suc-set}
 use Rattle.tanglegram.proofs.Lists.{append-nil}
 use Rattle.newick.specs.Sentence.{Sentence, number, group, Length, groups}

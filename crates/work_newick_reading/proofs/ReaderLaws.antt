@@ -1,5 +1,5 @@
 -- The readers, case by case: what the definitions read at a place, from the byte there and from what was read before.
-use Prim.Native.Nat.{ℕ, zero, suc, _+_, _-_, _≤_, _<_}
+use Prim.Native.Nat.{ℕ, zero, suc, _+_, _≤_, _<_}
 use mathlib.Core.Path.{_≡_, refl, sym, ap, _∙_, subst}
 use mathlib.Core.Logic.{_≢_}
 use mathlib.Core.Bool.{Bool, true, false, _||_}
@@ -10,16 +10,15 @@ use borrow.Author.Tests.{eq-eqb, ne-eqb, le-leb, lt-leb}
 use lib.Dec.{eqb}
 use lib.ListN.{length, getD, set, drop}
 use Rattle.newick.specs.Sentence.{Sentence, number, group, Length}
-use Rattle.newick.specs.Reading.{head, behind, isDigit, digits, pastDigits, LengthRead, no-length, length-read, lengthIn}
+use Rattle.newick.specs.Reading.{head, isDigit, digits, pastDigits, LengthRead, no-length, length-read, lengthIn}
 use Rattle.newick.specs.Reading.{Read, broken, read, withLength, leafIn, groupBy, subtreeIn}
-use Rattle.newick.specs.Noted.{noted}
-use Rattle.work_newick_reading.specs.Text.{Place, Ends}
+use Rattle.work_newick_reading.specs.Text.{Ends}
 use Rattle.work_newick_reading.specs.Notes.{Notes, Noted}
 use Rattle.work_newick_reading.specs.Reads.{DigitsEnd, LengthEnds, Reads}
 use Rattle.work_newick_reading.proofs.Text.{head-at, behind-at, text-at, byte-within}
 use Rattle.work_newick_reading.proofs.DigitLaws.{digit-low, digit-high, digits-more, digits-none}
 use Rattle.work_newick_reading.proofs.LengthLaws.{digits-long}
-use Rattle.work_newick_reading.proofs.NotesLaws.{noted-leaf, noted-group}
+use Rattle.work_newick_reading.proofs.NotesLaws.{noted-leaf}
 
 -- ---- what a reader answers
 

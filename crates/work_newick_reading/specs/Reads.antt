@@ -4,7 +4,7 @@ use Prim.Native.Nat.{ℕ, _<_}
 use mathlib.Core.Path.{_≡_}
 use mathlib.Core.Bool.{Bool, true, false}
 use mathlib.Core.List.{List}
-use lib.ListN.{length, drop}
+use lib.ListN.{drop}
 use Rattle.newick.specs.Reading.{LengthRead, no-length, length-read, Read, broken, read, digits, pastDigits}
 use Rattle.newick.specs.Noted.{noted}
 use Rattle.work_newick_reading.specs.Text.{Ends}

@@ -13,14 +13,14 @@ ghost use Rattle.work_newick_reading.specs.Notes.{Notes, opened, closed,
 // where it stands how many groups have closed
 const CLOSED_AT: usize = 1022;
 // where the object that was read last stands
-const LAST_AT: usize = 1023;
+pub const LAST_AT: usize = 1023;
 // where it stands how many groups are open
 const OPEN_AT: usize = 1024;
 
 // how many rows are noted: those of the first groups that close
 const MOST_ROWS: u16 = 511;
 // the object of the group that closes first; leaves are below it
-const FIRST_GROUP: u16 = 1024;
+pub const FIRST_GROUP: u16 = 1024;
 
 // How many groups are open.
 pub fn open_groups(notes: &[u16; 1025]) -> u16

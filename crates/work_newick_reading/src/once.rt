@@ -1,19 +1,20 @@
 // Whether the leaves that were noted are each from 1 to n, and none twice.
 ghost use mathlib.Core.Path.{_≡_};
-ghost use mathlib.Core.Bool.{true, cond, not};
+ghost use mathlib.Core.Bool.{true};
 ghost use mathlib.Core.List.{[], _∷_, _++_};
-ghost use Prim.Native.Nat.{ℕ, _-_, _*_, _≤_, _<_};
-ghost use lib.Dec.{leb};
-ghost use lib.ListN.{length, take, replicate};
+ghost use Prim.Native.Nat.{_-_, _*_, _≤_, _<_};
+ghost use lib.ListN.{length, take};
 ghost use Rattle.work_newick_reading.specs.Notes.{lastIn};
-ghost use Rattle.work_newick_reading.specs.Once.{refusedLeaf, fresh, Marked, MarkedMore};
+ghost use Rattle.work_newick_reading.specs.Once.{fresh, MarkedMore};
+use crate::notes::FIRST_GROUP;
+use crate::notes::LAST_AT;
 
 // Whether an entry is no leaf, or can be one more leaf of 1 to n, which is marked then.
 fn mark_leaf(marks: &mut [u8; 512], x: u16, n: u16) -> bool
     requires { ⌜ (length (now marks) ≡ 512) × (n ≤ 512) ⌝ }
     ensures { λ r. ⌜ MarkedMore (now (marks .entry)) x n r (now (marks .exit)) ⌝ }
 {
-    if 1024 <= x {
+    if FIRST_GROUP <= x {
         return true;
     }
     if x == 0 {
@@ -47,5 +48,5 @@ pub fn leaves_once(notes: &[u16; 1025], n: u16) -> bool
         }
         i += 1;
     }
-    mark_leaf(&mut marks, notes[1023], n)
+    mark_leaf(&mut marks, notes[LAST_AT], n)
 }
