@@ -1,7 +1,7 @@
-/* speed CALL FILE: nanoseconds per call of count, free (the left) and run (the whole allowance) on the record in FILE,
- * as `peer speed CALL` measures its own: each call tests the whole record; free and run restore the record's bytes
- * from a copy before each call; the median of nine batches of at least 50 ms. Prints the call's numbers on one line,
- * as desk writes them, and the nanoseconds on the next. */
+/* speed CALL FILE: nanoseconds per call of check, count, free (the left) and run (the whole allowance) on the record in
+ * FILE, as `peer speed CALL` measures its own: each call tests the whole record; free and run restore the record's
+ * bytes from a copy before each call; the median of nine batches of at least 50 ms. Prints the call's numbers on one
+ * line, as desk writes them, and the nanoseconds on the next. */
 #include <stdio.h>
 #include <stdlib.h>
 #include <string.h>
@@ -20,9 +20,12 @@ typedef void call_t(void);
 
 static uint8_t record[TANGLE_MOST_BYTES + 1], lent[TANGLE_MOST_BYTES];
 static size_t bytes;
+static struct tangle_refusal checked;
 static struct tangle_count counted;
 static struct tangle_free freed;
 static struct tangle_run ran;
+
+static void check(void) { checked = tangle_check(record, bytes); }
 
 static void count(void) { counted = tangle_count(record, bytes); }
 
@@ -62,6 +65,7 @@ static double median(call_t *call) {
 }
 
 static call_t *named(const char *name) {
+    if (strcmp(name, "check") == 0) return check;
     if (strcmp(name, "count") == 0) return count;
     if (strcmp(name, "free") == 0) return free_left;
     if (strcmp(name, "run") == 0) return run;
@@ -69,6 +73,7 @@ static call_t *named(const char *name) {
 }
 
 static void print_answer(call_t *call) {
+    if (call == check) printf("%u\n", checked.refusal);
     if (call == count) printf("%u %u\n", counted.refusal, counted.count);
     if (call == free_left) printf("%u %u %u\n", freed.refusal, freed.before, freed.after);
     if (call == run) printf("%u %u %u %u %u\n", ran.refusal, ran.first, ran.last, ran.turns, ran.settled);
@@ -78,7 +83,7 @@ int main(int argc, char **argv) {
     call_t *call = argc == 3 ? named(argv[1]) : NULL;
     FILE *file = call != NULL ? fopen(argv[2], "rb") : NULL;
     if (file == NULL) {
-        fprintf(stderr, "usage: speed count|free|run FILE\n");
+        fprintf(stderr, "usage: speed check|count|free|run FILE\n");
         return 1;
     }
     bytes = fread(record, 1, sizeof record, file);

@@ -1,8 +1,8 @@
 #!/usr/bin/env bash
-# speed.sh [TIMES]: speed of count, free and run beside Rust (host/peer), on one machine and the same records: balanced,
-# caterpillar and random trees of 64 and of 512 leaves. Prints nanoseconds per call of both, and the firmware's divided
-# by Rust's: 1.0 or less is the aim. Ends with 1 if an answer differs, or if a call takes more than TIMES Rust's time, 2
-# if it is not given.
+# speed.sh [TIMES]: speed of check, count, free and run beside Rust (host/peer), on one machine and the same records:
+# balanced, caterpillar and random trees of 64 and of 512 leaves, and for the check also straight links, from 1 to n.
+# Prints nanoseconds per call of both, and the firmware's divided by Rust's: 1.0 or less is the aim. Ends with 1 if an
+# answer differs, or if a call takes more than TIMES Rust's time, 2 if it is not given.
 #
 # The archive is for x86-64 and is linked there. On Arm, whose emulator's times say nothing, the same LLVM module is
 # compiled for Arm, by the kit's compiler and as the kit compiles it (-O3).
@@ -34,6 +34,7 @@ line_for() { # CALL FILE: desk's line for the same call
   local hex
   hex=$(od -An -v -tx1 "$2" | tr -d ' \n')
   case $1 in
+    check) echo "check $hex" ;;
     count) echo "count $hex" ;;
     free) echo "free $hex 1" ;;
     run) echo "run $hex 130818" ;;
@@ -51,8 +52,10 @@ measure() {
 
 printf '%-6s %-12s %6s %12s %12s %7s\n' call trees leaves 'firmware ns' 'Rust ns' ratio
 above=0
-for call in count free run; do
-  for shape in balanced caterpillar random; do
+for call in check count free run; do
+  shapes=(balanced caterpillar random)
+  if [ "$call" = check ]; then shapes+=(straight); fi
+  for shape in "${shapes[@]}"; do
     for leaves in 64 512; do
       file=$work/$shape.$leaves
       "$peer" record "$shape" "$leaves" 1 > "$file"

@@ -705,6 +705,40 @@ static void rows_refused(void)
     refused_row(__LINE__, 7, 1);
 }
 
+/* Leaf a's link. */
+static void set_link(size_t a, uint16_t link)
+{
+    size_t n = bytes()[6] * 256u + bytes()[7], at = 8 * n + 2 * (a - 1);
+
+    bytes()[at] = (uint8_t)(link >> 8);
+    bytes()[at + 1] = (uint8_t)(link & 255);
+}
+
+/* Each link in turn is 0, n + 1, 65,535 and, where there is one, the next link or the one before. The numbers of leaves
+ * stand about 64 and its multiples, since what was seen of the links is kept in words of 64. */
+static void links_refused(void)
+{
+    static const uint16_t leaves[] = {1, 2, 63, 64, 65, 128, 448, 449, 512};
+
+    for (size_t i = 0; i < sizeof leaves / sizeof *leaves; i++)
+        for (int reversed = 0; reversed < 2; reversed++) {
+            uint16_t n = leaves[i];
+
+            deep(n, reversed);
+            for (uint16_t a = 1; a <= n; a++) {
+                uint16_t link = reversed ? (uint16_t)(n + 1 - a) : a;
+                const uint16_t wrong[] = {0, (uint16_t)(n + 1), 65535, (uint16_t)(link < n ? link + 1 : link - 1)};
+
+                for (size_t k = 0; k < 4; k++) {
+                    set_link(a, wrong[k]);
+                    checked(__LINE__, 9);
+                }
+                set_link(a, link);
+            }
+            checked(__LINE__, 0);
+        }
+}
+
 /* A length and a number of entries whose low 16 bits would be accepted. */
 static void longer_than_16_bits(void)
 {
@@ -1219,6 +1253,7 @@ int main(void)
     examples_11_to_13();
     records_refused();
     rows_refused();
+    links_refused();
     longer_than_16_bits();
     arguments_refused();
     hand_lists();

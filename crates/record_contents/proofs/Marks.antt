@@ -1,135 +1,101 @@
--- Marks: one number more is marked, and 1 to n are marked exactly if each stands in the list.
-use Prim.Native.Nat.{ℕ, suc, pred, _+_, _≤_, _<_}
-use mathlib.Core.Path.{_≡_, refl, sym, ap, _∙_}
-use mathlib.Core.Bool.{Bool, true, false, cond, not, _||_}
+-- Marks: a number from 1 to n is marked exactly if it stands in the list, so 1 to n are all marked exactly if the list is one-to-one.
+use Prim.Native.Nat.{ℕ, zero, suc, pred, _+_, _≤_, _<_}
+use mathlib.Core.Path.{_≡_, refl, sym, ap, ap₂, _∙_}
+use mathlib.Core.Bool.{Bool, true, false, cond, _&&_, _||_, or-false, or-assoc, and-true}
 use mathlib.Core.List.{List, [], _∷_, _++_}
-use native.Mathlib.Numerals.{add-one}
+use mathlib.Core.Logic.{_≢_}
 use native.Mathlib.Omega.{arith}
-use native.Mathlib.Decide.{ℕ-discrete}
-use borrow.Author.Tests.{eq-eqb, ne-eqb, eqb-true, eqb-false, ltb-true, ltb-false}
+use borrow.Author.Tests.{ne-eqb, eqb-true, eqb-false, ltb-true, ltb-false, lt-ltb}
 use lib.Dec.{eqb, ltb}
-use lib.ListN.{length, getD, set, length-set, replicate}
-use lib.Seq.{ext-getD, getD-set-same, getD-set-other}
-use Rattle.tanglegram.specs.Lists.{range, bit}
-use Rattle.tanglegram.proofs.Lists.{range-each, mem-range}
+use lib.ListN.{length, replicate}
+use Rattle.tanglegram.specs.Lists.{range}
+use Rattle.tanglegram.proofs.ListSums.{range-last}
 use Rattle.work_tree_rule.specs.Rule.{among}
-use Rattle.record_contents.specs.Marks.{marksOf, marking, allMarked}
+use Rattle.work_seen_places.specs.Seen.{markAt, isMarked, allBefore}
+use Rattle.work_seen_places.proofs.SeenPlaces.{mark-number, length-mark, none-before}
 use Rattle.record_fields.specs.Fields.{mostLeaves}
 use Rattle.record_fields.specs.Refusals.{all, oneToOne}
-use Rattle.tanglegram.proofs.ListSums.{range-last}
-use Rattle.record_fields.proofs.Stores.{length-map-range, getD-made}
-use Rattle.record_fields.proofs.Tests.{all-ext, all-append, all-fails, all-of-each}
+use Rattle.record_fields.proofs.Tests.{all-append}
+use Rattle.record_contents.specs.Marks.{marking, markingAll}
 
-pub length-marked : (xs : List ℕ) → length (marksOf xs) ≡ mostLeaves
-unfolding marksOf
-length-marked xs = length-map-range (λ k. bit (among (suc k) xs)) 0 mostLeaves
+-- ---- a number that can't be marked
 
-mark-of : (xs : List ℕ) (i : ℕ) → i < mostLeaves → getD (marksOf xs) i 0 ≡ bit (among (suc i) xs)
-unfolding marksOf
-mark-of xs i h = getD-made (λ k. bit (among (suc k) xs)) mostLeaves i h
+pub zero-marks-nothing : (n : ℕ) (w : List ℕ) → marking n w 0 ≡ w
+zero-marks-nothing n w = refl
 
-among-end : (v x : ℕ) (xs : List ℕ) → among v (xs ++ (x ∷ [])) ≡ (among v xs || eqb v x)
-unfolding among
-among-end v x [] = go (eqb v x)
+pub above-marks-nothing : (n : ℕ) (w : List ℕ) (x : ℕ) → n < x → marking n w x ≡ w
+above-marks-nothing n w x h = go (eqb x 0)
   where
-    go : (b : Bool) → (b || false) ≡ (false || b)
+    go : (b : Bool) → cond (b || ltb n x) w (markAt w (pred x)) ≡ w
     go true = refl
-    go false = refl
-among-end v x (y ∷ xs) = rw (among-end v x xs) (go (eqb v y) (among v xs) (eqb v x))
+    go false = rw (lt-ltb n x h) refl
+
+-- a link of n + 1, and one of 65,535
+pub next-marks-nothing : (n : ℕ) (w : List ℕ) → marking n w (n + 1) ≡ w
+next-marks-nothing n w = above-marks-nothing n w (n + 1) (omega arith)
+
+pub last-marks-nothing : (n : ℕ) (w : List ℕ) → n ≤ mostLeaves → marking n w 65535 ≡ w
+last-marks-nothing n w h = above-marks-nothing n w 65535 (omega arith)
+
+-- ---- one number
+
+length-marking : (n : ℕ) (w : List ℕ) (x : ℕ) → length (marking n w x) ≡ length w
+length-marking n w x = go (eqb x 0 || ltb n x)
   where
-    go : (a b c : Bool) → (a || (b || c)) ≡ (a || b || c)
-    go true b c = refl
-    go false b c = refl
+    go : (b : Bool) → length (cond b w (markAt w (pred x))) ≡ length w
+    go true = refl
+    go false = length-mark w (pred x)
 
-or-true : (a : Bool) → (a || true) ≡ true
-or-true true = refl
-or-true false = refl
+module _ (n : ℕ) (most : n ≤ mostLeaves) (q : ℕ) (here : q < n) where
+  marking-too : (w : List ℕ) (x : ℕ) → length w ≡ 8 → isMarked (marking n w x) q ≡ (isMarked w q || eqb (suc q) x)
+  marking-too w x long = go (eqb x 0) (ltb n x) refl refl
+    where
+      -- another number than the one that stands at q
+      other : suc q ≢ x → isMarked w q ≡ (isMarked w q || eqb (suc q) x)
+      other h = rw (ne-eqb (suc q) x h) (sym (or-false (isMarked w q)))
 
-or-false : (a : Bool) → (a || false) ≡ a
-or-false true = refl
-or-false false = refl
+      go : (a b : Bool) → eqb x 0 ≡ a → ltb n x ≡ b →
+          isMarked (cond (a || b) w (markAt w (pred x))) q ≡ (isMarked w q || eqb (suc q) x)
+      go true b e f = other (λ z. omega (arith, eqb-true x 0 e))
+      go false true e f = other (λ z. omega (arith, ltb-true n x f))
+      go false false e f =
+          let some = eqb-false x 0 e in
+          let in-reach = ltb-false n x f in
+          mark-number w x (suc q) long (omega arith) (omega arith) (omega arith)
 
-pub marking-next : (xs : List ℕ) (x : ℕ) → marking (marksOf xs) x ≡ marksOf (xs ++ (x ∷ []))
-marking-next xs x = go (eqb x 0) (ltb mostLeaves x) refl refl
-  where
-    new : List ℕ
-    new = xs ++ (x ∷ [])
+  -- the numbers of a list
+  marking-all : (xs w : List ℕ) → length w ≡ 8 → isMarked (markingAll n w xs) q ≡ (isMarked w q || among (suc q) xs)
+  unfolding markingAll among
+  marking-all [] w long = sym (or-false (isMarked w q))
+  marking-all (x ∷ xs) w long =
+      marking-all xs (marking n w x) (length-marking n w x ∙ long)
+      ∙ ap (λ b. b || among (suc q) xs) (marking-too w x long)
+      ∙ or-assoc (isMarked w q) (eqb (suc q) x) (among (suc q) xs)
 
-    -- a number out of reach marks nothing
-    out : ((i : ℕ) → i < mostLeaves → suc i ≡ x → ⊥) → marksOf xs ≡ marksOf new
-    out h =
-        ext-getD 0 (marksOf xs) (marksOf new) (length-marked xs ∙ sym (length-marked new))
-        (λ i p.
-        let q : i < mostLeaves = omega (arith, length-marked xs) in
-        rw (mark-of xs i q, mark-of new i q, among-end (suc i) x xs, ne-eqb (suc i) x (h i q), or-false (among (suc i) xs)) refl)
+  marked-among : (xs : List ℕ) → isMarked (markingAll n (replicate 8 0) xs) q ≡ among (suc q) xs
+  marked-among xs = marking-all xs (replicate 8 0) refl ∙ rw (none-before q) refl
 
-    at : (i : ℕ) → i < mostLeaves → 1 ≤ x → x ≤ mostLeaves → Dec (i ≡ pred x) →
-        getD (set (marksOf xs) (pred x) 1) i 0 ≡ getD (marksOf new) i 0
-    at i p a b (yes e) =
-        rw (
-          e,
-          getD-set-same (marksOf xs) (pred x) 1 0 (omega (arith, length-marked xs)),
-          mark-of new (pred x) (omega arith),
-          among-end (suc (pred x)) x xs,
-          eq-eqb (suc (pred x)) x (omega arith),
-          or-true (among (suc (pred x)) xs),
-        ) refl
-    at i p a b (no e) =
-        rw (
-          getD-set-other (marksOf xs) (pred x) i 1 0 e,
-          mark-of xs i p,
-          mark-of new i p,
-          among-end (suc i) x xs,
-          ne-eqb (suc i) x (λ z. e (omega arith)),
-          or-false (among (suc i) xs),
-        ) refl
+-- one number more
+pub marking-last : (n : ℕ) (xs w : List ℕ) (x : ℕ) → markingAll n w (xs ++ (x ∷ [])) ≡ marking n (markingAll n w xs) x
+unfolding markingAll
+marking-last n [] w x = refl
+marking-last n (y ∷ xs) w x = marking-last n xs (marking n w y) x
 
-    go : (a b : Bool) → eqb x 0 ≡ a → ltb mostLeaves x ≡ b → cond (a || b) (marksOf xs) (set (marksOf xs) (pred x) 1) ≡ marksOf new
-    go true b e f = out (λ i p z. omega (arith, eqb-true x 0 e))
-    go false true e f = out (λ i p z. omega (arith, ltb-true mostLeaves x f))
-    go false false e f =
-        let nonzero = eqb-false x 0 e in
-        let most = ltb-false mostLeaves x f in
-        ext-getD 0 (set (marksOf xs) (pred x) 1) (marksOf new)
-        (length-set (marksOf xs) (pred x) 1 ∙ length-marked xs ∙ sym (length-marked new))
-        (λ i p.
-        at i (omega (arith, length-set (marksOf xs) (pred x) 1, length-marked xs)) (omega arith) (omega arith) (ℕ-discrete i (pred x)))
+-- ---- all of them
 
--- 1 to n are marked exactly if each stands in the list
-pub all-marked-links : (xs : List ℕ) (n : ℕ) → n ≤ mostLeaves → allMarked (marksOf xs) n ≡ oneToOne n xs
-unfolding allMarked oneToOne
-all-marked-links xs n h =
-    all-ext (λ c. not (eqb (getD (marksOf xs) (pred c) 0) 0)) (λ c. among c xs) (range 1 n)
-    (range-each (λ c. not (eqb (getD (marksOf xs) (pred c) 0) 0) ≡ among c xs) 1 n
-    (λ c p q. let e : suc (pred c) ≡ c = omega arith in rw (mark-of xs (pred c) (omega arith), e) (back (among c xs))))
-  where
-    back : (b : Bool) → not (eqb (bit b) 0) ≡ b
-    back true = refl
-    back false = refl
+module _ (n : ℕ) (most : n ≤ mostLeaves) (xs : List ℕ) where
+  all-to : (m : ℕ) → m ≤ n → allBefore (markingAll n (replicate 8 0) xs) m ≡ all (λ c. among c xs) (range 1 m)
+  unfolding allBefore all range
+  all-to zero h = refl
+  all-to (suc m) h =
+      let last : suc m ≡ 1 + m = omega arith in
+      ap₂ (λ (a b : Bool). a && b) (all-to m (omega arith)) (marked-among n most m (omega arith) xs)
+      ∙ ap (λ b. all (λ c. among c xs) (range 1 m) && b) (sym (and-true (among (suc m) xs)))
+      ∙ sym (all-append (λ c. among c xs) (range 1 m) (suc m ∷ []))
+      ∙ ap (λ k. all (λ c. among c xs) (range 1 m ++ (k ∷ []))) last
+      ∙ ap (all (λ c. among c xs)) (sym (range-last 1 m))
 
--- nothing marked
-pub none-marked : replicate mostLeaves 0 ≡ marksOf []
-unfolding marksOf among range
-none-marked = refl
-
--- ---- one number more
-
-pub all-marked-more : (ms : List ℕ) (i : ℕ) → allMarked ms i ≡ true → (getD ms i 0 ≡ 0 → ⊥) → allMarked ms (i + 1) ≡ true
-unfolding allMarked
-all-marked-more ms i e h =
-    let p : ℕ → Bool = λ c. not (eqb (getD ms (pred c) 0) 0) in
-    let last : 1 + i ≡ suc i = omega arith in
-    ap (λ m. all p (range 1 m)) (add-one i)
-    ∙ ap (all p) (range-last 1 i)
-    ∙ all-append p (range 1 i) ((1 + i) ∷ [])
-    ∙ rw (e, last) (all-of-each p (suc i ∷ []) (rw (ne-eqb (getD ms i 0) 0 h) refl, tt))
-
-pub all-marked-less : (ms : List ℕ) (n i : ℕ) → i < n → getD ms i 0 ≡ 0 → allMarked ms n ≡ false
-unfolding allMarked
-all-marked-less ms n i h e =
-    all-fails (λ c. not (eqb (getD ms (pred c) 0) 0)) (mem-range (suc i) 1 n (omega arith) (omega arith))
-    (rw (eq-eqb (getD ms i 0) 0 e) refl)
-
-pub none-asked : (ms : List ℕ) → allMarked ms 0 ≡ true
-unfolding allMarked all range
-none-asked ms = refl
+  -- 1 to n are marked exactly if each stands in the list
+  pub all-marked : allBefore (markingAll n (replicate 8 0) xs) n ≡ oneToOne n xs
+  unfolding oneToOne
+  all-marked = all-to n (omega arith)

@@ -1,24 +1,16 @@
--- How the test of the links keeps what it has seen: a mark for each number from 1 to 512. No statement of a call cites this.
-use Prim.Native.Nat.{ℕ, suc, pred}
-use mathlib.Core.Bool.{Bool, cond, not, _||_}
-use mathlib.Core.List.{List, map}
+-- How the test of the links keeps what it has seen, in eight words (`work_seen_places/specs/Seen`): place q stands for the number q + 1.
+-- No statement of a call cites this.
+use Prim.Native.Nat.{ℕ, pred}
+use mathlib.Core.Bool.{cond, _||_}
+use mathlib.Core.List.{List, [], _∷_}
 use lib.Dec.{eqb, ltb}
-use lib.ListN.{getD, set}
-use Rattle.tanglegram.specs.Lists.{range, bit}
-use Rattle.work_tree_rule.specs.Rule.{among}
-use Rattle.record_fields.specs.Fields.{mostLeaves}
-use Rattle.record_fields.specs.Refusals.{all}
+use Rattle.work_seen_places.specs.Seen.{markAt}
 
--- The marks of the numbers that stand in a list.
-unfoldable pub marksOf : List ℕ → List ℕ
-unfolding among
-marksOf xs = map (λ k. bit (among (suc k) xs)) (range 0 mostLeaves)
+-- The words with x marked too, if it is from 1 to n.
+abbrev pub marking : ℕ → List ℕ → ℕ → List ℕ
+marking n w x = cond (eqb x 0 || ltb n x) w (markAt w (pred x))
 
--- The marks with x marked too, if it is from 1 to 512.
-abbrev pub marking : List ℕ → ℕ → List ℕ
-marking ms x = cond (eqb x 0 || ltb mostLeaves x) ms (set ms (pred x) 1)
-
--- 1 to n are marked.
-unfoldable pub allMarked : List ℕ → ℕ → Bool
-unfolding all
-allMarked ms n = all (λ c. not (eqb (getD ms (pred c) 0) 0)) (range 1 n)
+-- The words with each of the numbers xs marked too that is from 1 to n.
+unfoldable pub markingAll : ℕ → List ℕ → List ℕ → List ℕ
+markingAll n w [] = w
+markingAll n w (x ∷ xs) = markingAll n (marking n w x) xs

@@ -2,7 +2,7 @@
 use Prim.Native.Nat.{ℕ, zero, suc, _+_, _≤_, _<_}
 use mathlib.Core.Path.{_≡_, refl, sym, ap, _∙_, subst}
 use mathlib.Core.Logic.{_≢_}
-use mathlib.Core.Bool.{Bool, true, false, _||_}
+use mathlib.Core.Bool.{Bool, true, false, _||_, or-true}
 use mathlib.Core.List.{List, [], _∷_}
 use native.Mathlib.Decide.{ℕ-discrete}
 use native.Mathlib.Omega.{arith}
@@ -70,10 +70,6 @@ digits-head (x ∷ xs) h = digits-none x xs h .0
 leaf-broken : (xs : List ℕ) → (eqb (length (digits xs)) 0 || eqb (head xs) 48) ≡ true → leafIn xs ≡ broken
 unfolding leafIn
 leaf-broken xs e = rw e refl
-
-or-true : (b : Bool) → (b || true) ≡ true
-or-true true = refl
-or-true false = refl
 
 module _ (text : List ℕ) (at : ℕ) where
   no-digit-broken : isDigit (getD text at 256) ≡ false → leafIn (drop at text) ≡ broken

@@ -8,11 +8,13 @@ ghost use Rattle.work_newick_reading.specs.Notes.{lastIn};
 ghost use Rattle.work_newick_reading.specs.Once.{fresh, MarkedMore};
 use crate::notes::FIRST_GROUP;
 use crate::notes::LAST_AT;
+use work_seen_places::is_marked;
+use work_seen_places::mark;
 
 // Whether an entry is no leaf, or can be one more leaf of 1 to n, which is marked then.
-fn mark_leaf(marks: &mut [u8; 512], x: u16, n: u16) -> bool
-    requires { ⌜ (length (now marks) ≡ 512) × (n ≤ 512) ⌝ }
-    ensures { λ r. ⌜ MarkedMore (now (marks .entry)) x n r (now (marks .exit)) ⌝ }
+fn mark_leaf(seen: &mut [u64; 8], x: u16, n: u16) -> bool
+    requires { ⌜ n ≤ 512 ⌝ }
+    ensures { λ r. ⌜ MarkedMore (now (seen .entry)) x n r (now (seen .exit)) ⌝ }
 {
     if FIRST_GROUP <= x {
         return true;
@@ -23,11 +25,11 @@ fn mark_leaf(marks: &mut [u8; 512], x: u16, n: u16) -> bool
     if n < x {
         return false;
     }
-    let k = x as usize - 1;
-    if marks[k] != 0 {
+    let place = x as usize - 1;
+    if is_marked(seen, place) {
         return false;
     }
-    marks[k] = 1;
+    mark(seen, place);
     true
 }
 
@@ -39,14 +41,14 @@ pub fn leaves_once(notes: &[u16; 1025], n: u16) -> bool
         r ≡ fresh n [] (take (2 * (n - 1)) (now (notes .entry)) ++ (lastIn (now (notes .entry)) ∷ []))
         ⌝ }
 {
-    let mut marks = [0u8; 512];
+    let mut seen = [0u64; 8];
     let m = 2 * (n as usize - 1);
     let mut i = 0;
     while i < m {
-        if !mark_leaf(&mut marks, notes[i], n) {
+        if !mark_leaf(&mut seen, notes[i], n) {
             return false;
         }
         i += 1;
     }
-    mark_leaf(&mut marks, notes[LAST_AT], n)
+    mark_leaf(&mut seen, notes[LAST_AT], n)
 }

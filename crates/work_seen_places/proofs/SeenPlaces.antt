@@ -1,11 +1,12 @@
 -- The marked places past a place are the seen ones past it: marking a place that is not yet marked adds one to the count past
 -- each place before it, and so the words that stand for a list of different places count those of the list.
-use Prim.Native.Nat.{ℕ, zero, suc, suc-le-suc, _+_, _-_, _/_, _%_, _^_, _≤_, _<_, max}
+use Prim.Native.Nat.{ℕ, zero, suc, pred, suc-le-suc, _+_, _-_, _/_, _%_, _^_, _≤_, _<_, max}
 use mathlib.Core.Path.{_≡_, refl, sym, ap, ap₂, _∙_, subst}
-use mathlib.Core.Bool.{Bool, true, false}
+use mathlib.Core.Bool.{Bool, true, false, _||_, or-false}
 use mathlib.Core.List.{List, [], _∷_, _++_}
 use mathlib.Core.Logic.{⊎-elim, _≢_}
 use native.Mathlib.Nat.{zero-add, add-zero, eq-or-lt-of-le, max-zero, zero-max, max-le, zero-div, mul-mod-left, pow-suc}
+use native.Mathlib.Decide.{ℕ-discrete}
 use native.Mathlib.Omega.{arith}
 use lib.Arith.{lt-one, digits-mod}
 use lib.Bits.{bitOr, or-shr, or-step}
@@ -17,7 +18,7 @@ use borrow.Author.Tests.{eq-eqb, ne-eqb, ltb-true, ltb-false, eqb-true, eqb-fals
 use Rattle.tanglegram.specs.Lists.{Each, Distinct, range, bit}
 use Rattle.tanglegram.specs.Entanglement.{sum}
 use Rattle.tanglegram.proofs.Lists.{each-zip, each-all, range-each, length-range}
-use Rattle.work_seen_places.specs.Seen.{digit, marked, markAt, markAll, past, above}
+use Rattle.work_seen_places.specs.Seen.{digit, marked, isMarked, markAt, markAll, past, above}
 use Rattle.tanglegram.proofs.ListSums.{sum-ext, sum-add, sum-zero, sum-most}
 
 -- 1 if q is x
@@ -94,6 +95,30 @@ marked-or w p q n hp = go (eqb (q / 64) (p / 64)) refl
         ∙ sym (max-zero (marked w q))
         ∙ ap (max (marked w q)) (sym (is-other p q (λ f. s (ap (λ (k : ℕ). k / 64) (sym f)))))
 
+marked-most : (w : List ℕ) (q : ℕ) → marked w q ≤ 1
+unfolding marked digit
+marked-most w q = omega arith
+
+-- a place is marked then if it was, or is that place
+mark-too : (w : List ℕ) (p q : ℕ) → length w ≡ 8 → p < 512 → isMarked (markAt w p) q ≡ (isMarked w q || eqb p q)
+mark-too w p q n hp = ap (λ m. eqb m 1) (marked-or w p q n hp) ∙ go (eqb p q) (marked w q) (marked-most w q)
+  where
+    go : (b : Bool) (m : ℕ) → m ≤ 1 → eqb (max m (bit b)) 1 ≡ (eqb m 1 || b)
+    go true zero h = refl
+    go true (suc zero) h = refl
+    go true (suc (suc m)) h = absurd (omega arith)
+    go false m h = ap (λ k. eqb k 1) (max-zero m) ∙ sym (or-false (eqb m 1))
+
+-- the same where a place stands for the number after it
+pub mark-number : (w : List ℕ) (x v : ℕ) → length w ≡ 8 → 1 ≤ x → x ≤ 512 → 1 ≤ v →
+    isMarked (markAt w (pred x)) (pred v) ≡ (isMarked w (pred v) || eqb v x)
+mark-number w x v n hx hm hv =
+    mark-too w (pred x) (pred v) n (omega arith) ∙ ap (λ b. isMarked w (pred v) || b) (same (ℕ-discrete v x))
+  where
+    same : Dec (v ≡ x) → eqb (pred x) (pred v) ≡ eqb v x
+    same (yes e) = eq-eqb (pred x) (pred v) (omega arith) ∙ sym (eq-eqb v x e)
+    same (no e) = ne-eqb (pred x) (pred v) (λ f. e (omega arith)) ∙ sym (ne-eqb v x e)
+
 pub length-mark : (w : List ℕ) (p : ℕ) → length (markAt w p) ≡ length w
 unfolding markAt
 length-mark w p = length-set w (p / 64) (bitOr (getD w (p / 64) 0) (2 ^ (p % 64)))
@@ -164,6 +189,9 @@ past-none : (r : ℕ) → past (replicate 8 0) r ≡ 0
 unfolding past
 past-none r = let qs = range (suc r) (511 - r) in sum-zero (marked (replicate 8 0)) qs (each-all qs marked-none)
 
+pub none-before : (q : ℕ) → isMarked (replicate 8 0) q ≡ false
+none-before q = rw (marked-none q) refl
+
 pub past-words : (ps : List ℕ) (r : ℕ) → Each (λ p. p < 512) ps → Distinct ps → past (markAll (replicate 8 0) ps) r ≡ above r ps
 past-words ps r h d = omega (arith, past-marks ps (replicate 8 0) r refl h d (each-all ps marked-none), past-none r)
 
@@ -175,7 +203,7 @@ markAll-last w (q ∷ ps) p = markAll-last (markAt w q) ps p
 
 -- at most as many as there are places
 pub past-most : (w : List ℕ) (p : ℕ) → past w p ≤ 511
-unfolding past marked digit
+unfolding past
 past-most w p =
-    let h = sum-most (marked w) (λ q. omega arith) (range (suc p) (511 - p)) in
+    let h = sum-most (marked w) (marked-most w) (range (suc p) (511 - p)) in
     omega (arith, rw length-range at h)

@@ -40,7 +40,7 @@ one-shl j h = rw one-mul (mod-eq-of-lt (pow-lt h))
 
 -- ---- the words
 
-marked-at : (w : List ℕ) (i j : ℕ) → j < 64 → marked w (64 * i + j) ≡ digit (getD w i 0) j
+pub marked-at : (w : List ℕ) (i j : ℕ) → j < 64 → marked w (64 * i + j) ≡ digit (getD w i 0) j
 unfolding marked
 marked-at w i j h =
     let q : (64 * i + j) / 64 ≡ i = omega arith in let r : (64 * i + j) % 64 ≡ j = omega arith in rw (q, r)

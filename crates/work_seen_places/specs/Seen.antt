@@ -1,8 +1,9 @@
 -- Seen places: one bit for each of 512 places, in eight words of 64 bits.
-use Prim.Native.Nat.{ℕ, suc, _-_, _/_, _%_, _^_}
+use Prim.Native.Nat.{ℕ, zero, suc, _-_, _/_, _%_, _^_}
+use mathlib.Core.Bool.{Bool, true, _&&_}
 use mathlib.Core.List.{List, [], _∷_}
 use lib.Bits.{bitOr}
-use lib.Dec.{ltb}
+use lib.Dec.{eqb, ltb}
 use lib.ListN.{getD, set}
 use Rattle.tanglegram.specs.Entanglement.{sum}
 use Rattle.tanglegram.specs.Lists.{range, bit}
@@ -11,9 +12,22 @@ use Rattle.tanglegram.specs.Lists.{range, bit}
 unfoldable pub digit : ℕ → ℕ → ℕ
 digit x i = x / 2 ^ i % 2
 
+-- The lowest j digits of a word are ones.
+abbrev pub lowOnes : ℕ → ℕ → Bool
+lowOnes x j = eqb (x % 2 ^ j) (2 ^ j - 1)
+
 -- 1 if place q is marked, else 0.
 unfoldable pub marked : List ℕ → ℕ → ℕ
 marked w q = digit (getD w (q / 64) 0) (q % 64)
+
+-- Place q is marked.
+abbrev pub isMarked : List ℕ → ℕ → Bool
+isMarked w q = eqb (marked w q) 1
+
+-- Each place before n is marked.
+unfoldable pub allBefore : List ℕ → ℕ → Bool
+allBefore w zero = true
+allBefore w (suc q) = allBefore w q && isMarked w q
 
 -- The words with place p marked too.
 unfoldable pub markAt : List ℕ → ℕ → List ℕ

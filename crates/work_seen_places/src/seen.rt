@@ -3,7 +3,7 @@ ghost use mathlib.Core.Path.{_≡_};
 ghost use Prim.Native.Nat.{suc, _-_, _<_, _≤_};
 ghost use Rattle.tanglegram.specs.Entanglement.{sum};
 ghost use Rattle.tanglegram.specs.Lists.{range};
-ghost use Rattle.work_seen_places.specs.Seen.{digit, markAt, past};
+ghost use Rattle.work_seen_places.specs.Seen.{digit, lowOnes, isMarked, allBefore, markAt, past};
 
 // Marks place p, and no other.
 pub fn mark(w: &mut [u64; 8], p: usize)
@@ -13,6 +13,52 @@ pub fn mark(w: &mut [u64; 8], p: usize)
     let k = p / 64;
     let j = p % 64;
     w[k] = w[k] | (1u64 << j);
+}
+
+// Whether place p is marked.
+pub fn is_marked(w: &[u64; 8], p: usize) -> bool
+    requires { ⌜ p < 512 ⌝ }
+    ensures { λ r. ⌜ r ≡ isMarked (now (w .entry)) p ⌝ }
+{
+    let k = p / 64;
+    let j = p % 64;
+    (w[k] >> j) % 2 == 1
+}
+
+// Whether a word has ones only.
+fn all_ones(x: u64) -> bool
+    ensures { λ r. ⌜ r ≡ lowOnes x 64 ⌝ }
+{
+    x == u64::MAX
+}
+
+// Whether the lowest j digits of a word are ones.
+fn low_ones(x: u64, j: usize) -> bool
+    requires { ⌜ j < 64 ⌝ }
+    ensures { λ r. ⌜ r ≡ lowOnes x j ⌝ }
+{
+    let end = 1u64 << j;
+    x % end == end - 1
+}
+
+// Whether each place before n is marked: the words that these places fill, and the low digits of the next word.
+pub fn all_before(w: &[u64; 8], n: usize) -> bool
+    requires { ⌜ n ≤ 512 ⌝ }
+    ensures { λ r. ⌜ r ≡ allBefore (now (w .entry)) n ⌝ }
+{
+    let k = n / 64;
+    let mut i = 0;
+    while i < k {
+        if !all_ones(w[i]) {
+            return false;
+        }
+        i += 1;
+    }
+    let j = n % 64;
+    if j == 0 {
+        return true;
+    }
+    low_ones(w[k], j)
 }
 
 // The ones of a word.

@@ -2,6 +2,7 @@
 // sides of every limit, every refusal of every call, and several faults at once so that the
 // order of the tests shows. They are the same for every seed.
 
+use crate::bad_links;
 use crate::bad_rows;
 use crate::desk::hex;
 use crate::faults;
@@ -24,6 +25,7 @@ const HOLDS: [u8; 4] = [b'N', b'L', b'R', b'B'];
 pub fn all() -> Vec<String> {
     let mut all = examples();
     all.extend(rows_that_break_the_rule());
+    all.extend(links_that_are_not_one_to_one());
     all.extend(turns_and_sides());
     all.extend(buffers());
     all.extend(hand_lists());
@@ -154,6 +156,19 @@ fn rows_that_break_the_rule() -> Vec<String> {
         calls.push(lines::plain("check", &first.bytes()));
         calls.push(lines::plain("check", &last.bytes()));
         calls.push(lines::pack(512, last, &[]));
+    }
+    calls
+}
+
+/// Links about the ends of words of 64, right and with one of them wrong: in a record's bytes and
+/// in the lists of packing.
+fn links_that_are_not_one_to_one() -> Vec<String> {
+    let mut calls = Vec::new();
+    for made in bad_links::good().iter().chain(&bad_links::all()) {
+        calls.push(lines::plain("check", &made.bytes()));
+        if made.n <= 65 || made.n == 512 {
+            calls.push(lines::pack(made.n, made, &[]));
+        }
     }
     calls
 }

@@ -93,11 +93,13 @@ pub fn any_layout(n: usize, random: &mut Random) -> Vec<u8> {
     (1..n).map(|_| random.below(2) as u8).collect()
 }
 
-/// The record of the command `record`: both sides of one shape, hold N, links shuffled.
+/// The record of the command `record`: both sides of one shape, hold N, links shuffled; or
+/// `straight`, caterpillars whose links are 1 to n in this order.
 pub fn of_shape(shape: &str, n: usize, random: &mut Random) -> Option<Made> {
+    let straight = shape == "straight";
     let shape = match shape {
         "balanced" => Shape::Balanced,
-        "caterpillar" => Shape::Caterpillar,
+        "caterpillar" | "straight" => Shape::Caterpillar,
         "random" => Shape::Joined,
         _ => return None,
     };
@@ -109,7 +111,9 @@ pub fn of_shape(shape: &str, n: usize, random: &mut Random) -> Option<Made> {
         shapes::tree(shape, exchange, n, random)
     };
     let mut made = example(&side(random), &side(random));
-    random.shuffle(&mut made.links);
+    if !straight {
+        random.shuffle(&mut made.links);
+    }
     made.left_layout = any_layout(n, random);
     made.right_layout = any_layout(n, random);
     Some(made)

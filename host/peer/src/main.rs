@@ -3,9 +3,10 @@
 //   peer answers               answers desk's lines from standard input
 //   peer calls SEED COUNT      writes so many lines of calls
 //   peer sheet                 what `sheet` prints for the record on standard input
-//   peer record SHAPE N SEED   one good record; SHAPE is balanced, caterpillar or random
-//   peer speed CALL            nanoseconds per call; CALL is count, free or run
+//   peer record SHAPE N SEED   one good record; SHAPE is balanced, caterpillar, random or straight
+//   peer speed CALL            nanoseconds per call; CALL is check, count, free or run
 
+mod bad_links;
 mod bad_rows;
 #[cfg(test)]
 mod bench;
@@ -36,7 +37,7 @@ use std::process::ExitCode;
 use random::Random;
 
 const USAGE: &str =
-    "usage: peer answers | calls SEED COUNT | sheet | record SHAPE N SEED | speed count|free|run";
+    "usage: peer answers | calls SEED COUNT | sheet | record SHAPE N SEED | speed check|count|free|run";
 
 fn read_at_most(bytes: u64) -> io::Result<Vec<u8>> {
     let mut input = Vec::new();

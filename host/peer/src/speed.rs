@@ -1,6 +1,6 @@
-// Nanoseconds per call of count, free (the left) and run (the whole allowance) on one record.
-// Each call includes the complete check of the record; free and run restore the record's bytes
-// from a copy before each call. The answer is the median over several batches.
+// Nanoseconds per call of check, count, free (the left) and run (the whole allowance) on one
+// record. Each call includes the complete check of the record; free and run restore the record's
+// bytes from a copy before each call. The answer is the median over several batches.
 
 use std::hint::black_box;
 use std::time::{Duration, Instant};
@@ -15,6 +15,12 @@ const BATCHES: usize = 9;
 pub fn speed(call: &str, record: &[u8]) -> Option<u64> {
     let mut lent = record.to_vec();
     match call {
+        "check" => {
+            firmware::check(record).ok()?;
+            Some(median(|| {
+                let _ = black_box(firmware::check(black_box(record)));
+            }))
+        }
         "count" => {
             firmware::count(record).ok()?;
             Some(median(|| {

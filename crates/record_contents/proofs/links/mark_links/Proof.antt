@@ -1,32 +1,33 @@
--- `mark_links` marks each link in turn: the marks are those of the links passed.
+-- `mark_links` marks each link in turn: what is marked are the links passed.
 use Prim.Native.Nat.{_-_, _≤_}
-use mathlib.Core.Path.{_≡_, sym, ap, _∙_}
+use mathlib.Core.Path.{_≡_, refl, sym, ap, _∙_}
 use native.Mathlib.Omega.{arith}
 use lib.ListN.{take}
-use Rattle.record_contents.specs.Marks.{marksOf}
-use Rattle.record_contents.proofs.Marks.{marking-next}
+use Rattle.record_contents.specs.Marks.{markingAll}
+use Rattle.record_contents.proofs.Marks.{marking-last}
 use Rattle.record_fields.proofs.Stores.{take-more}
 use borrow.Author.Needs.{needs}
 use Rattle.record_contents.proofs.links.mark_links.Statement.{statement}
 use Rattle.record_contents.proofs.links.mark_links.Tie as tie
 
 abbrev Inv-loop : tie.InvT-loop
-Inv-loop links n marks₀ i₀ marks i = (i ≤ n) × (marks ≡ marksOf (take i links))
+Inv-loop links n seen₀ i₀ seen i = (i ≤ n) × (seen ≡ markingAll n seen₀ (take i links))
 
 abbrev μ-loop : tie.MeasureT-loop
-μ-loop links n marks₀ i₀ marks i = n - i
+μ-loop links n seen₀ i₀ seen i = n - i
 
 loop-holds : tie.Need-loop-holds Inv-loop μ-loop
-loop-holds c = (omega arith, c .pre .2)
+unfolding markingAll
+loop-holds c = (omega arith, refl)
 
-mul-mark : tie.Need-mul-mark Inv-loop μ-loop
-mul-mark c = search needs
+mul-mark-link : tie.Need-mul-mark-link Inv-loop μ-loop
+mul-mark-link c = search needs
 
-element-copy-out-mark : tie.Need-element-copy-out-mark Inv-loop μ-loop
-element-copy-out-mark c = search needs
+element-copy-out-mark-link : tie.Need-element-copy-out-mark-link Inv-loop μ-loop
+element-copy-out-mark-link c = search needs
 
-mark-requires : tie.Need-mark-requires Inv-loop μ-loop
-mark-requires c κs = search needs
+mark-link-requires : tie.Need-mark-link-requires Inv-loop μ-loop
+mark-link-requires c κs = search needs
 
 add-i : tie.Need-add-i Inv-loop μ-loop
 add-i c = search needs
@@ -38,8 +39,14 @@ loop-again : tie.Need-loop-again Inv-loop μ-loop
 loop-again c =
     let s = c .before .before .before .before .before .args in
     let l = c .before .before .before .before .loop in
-    let next = take-more (s .links .now) (l .i) (omega arith) in
-    (omega arith, c .mark .ensures ∙ rw (l .inv .1) (marking-next (take (l .i) (s .links .now)) _) ∙ ap marksOf (sym next))
+    let seen = s .seen .now in
+    let passed = take (l .i) (s .links .now) in
+    let next = take-more (s .links .now) (l .i) (omega arith) in (
+      omega arith,
+      c .mark-link .ensures
+          ∙ rw (l .inv .1) (sym (marking-last (s .n) passed seen _))
+          ∙ ap (markingAll (s .n) seen) (sym next),
+    )
 
 returns : tie.Need-returns Inv-loop μ-loop
 returns c =
@@ -55,9 +62,9 @@ mark-links-spec =
     Inv-loop
     μ-loop
     loop-holds
-    mul-mark
-    element-copy-out-mark
-    mark-requires
+    mul-mark-link
+    element-copy-out-mark-link
+    mark-link-requires
     add-i
     loop-less
     loop-again

@@ -8,10 +8,10 @@ use Rattle.work_newick_reading.proofs.once.leaves_once.Statement.{state
 use Rattle.work_newick_reading.proofs.once.leaves_once.Tie as tie
 
 abbrev Inv-loop : tie.InvT-loop
-Inv-loop notes n marks₀ m i₀ marks i = OnceTo notes n m marks i
+Inv-loop notes n seen₀ m i₀ seen i = OnceTo notes n m seen i
 
 abbrev μ-loop : tie.MeasureT-loop
-μ-loop notes n marks₀ m i₀ marks i = m - i
+μ-loop notes n seen₀ m i₀ seen i = m - i
 
 sub-m : tie.Need-sub-m Inv-loop μ-loop
 sub-m c = search needs

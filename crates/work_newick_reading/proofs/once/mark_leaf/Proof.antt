@@ -1,4 +1,7 @@
 -- `mark_leaf`: each test, and the mark.
+use mathlib.Core.Path.{sym, _∙_}
+use native.Mathlib.Numerals.{sub-one}
+use native.Mathlib.Omega.{arith}
 use Rattle.work_newick_reading.proofs.OnceLaws.{marked-no-leaf, marked-0, marked-above, marked-twice, marked-new}
 use borrow.Author.Needs.{needs}
 use Rattle.work_newick_reading.proofs.once.mark_leaf.Statement.{statement}
@@ -13,24 +16,28 @@ returns-2 c = marked-0 _ _ _ (c .if2 .taken)
 returns-3 : tie.Need-returns-3
 returns-3 c = marked-above _ _ _ (c .before .if2 .left) (c .before .before .if1 .left) (c .if3 .taken)
 
-sub-k : tie.Need-sub-k
-sub-k c = search needs
+sub-place : tie.Need-sub-place
+sub-place c = search needs
 
-element-copy-out-if4 : tie.Need-element-copy-out-if4
-element-copy-out-if4 c = search needs
+is-marked-requires : tie.Need-is-marked-requires
+is-marked-requires c κs = omega arith
 
 returns-4 : tie.Need-returns-4
 returns-4 c =
-    let e = c .before .before in
-    marked-twice _ _ _ (e .before .if2 .left) (e .before .before .if1 .left) (e .if3 .left) (c .if4 .taken)
+    let tested = c .before .before .before in
+    let twice = sym (c .before .is-marked .ensures) ∙ c .if4 .taken in
+    marked-twice _ _ _ (tested .before .if2 .left) (tested .before .before .if1 .left) (tested .if3 .left) (rw (sub-one _) at twice)
 
-element-write-marks : tie.Need-element-write-marks
-element-write-marks c = search needs
+mark-requires : tie.Need-mark-requires
+mark-requires c κs = omega arith
 
 returns-5 : tie.Need-returns-5
 returns-5 c =
-    let e = c .before .before in
-    marked-new _ _ _ (e .before .if2 .left) (e .before .before .if1 .left) (e .if3 .left) (c .if4 .left)
+    let at-mark = c .before .before in
+    let tested = at-mark .before .before .before in
+    let new = sym (at-mark .before .is-marked .ensures) ∙ at-mark .if4 .left in
+    rw (c .mark .ensures, sub-one (tested .before .before .before .args .x))
+    (marked-new _ _ _ (tested .before .if2 .left) (tested .before .before .if1 .left) (tested .if3 .left) (rw (sub-one _) at new))
 
 pub mark-leaf-spec : {M : Type 1} → statement M
 mark-leaf-spec =
@@ -39,8 +46,8 @@ mark-leaf-spec =
     returns
     returns-2
     returns-3
-    sub-k
-    element-copy-out-if4
+    sub-place
+    is-marked-requires
     returns-4
-    element-write-marks
+    mark-requires
     returns-5)
