@@ -1,6 +1,6 @@
 # For the scripts that link C with the calls: how an archive is made and how C is compiled. `archive NAME` proves a
-# library and writes its archive, which is for x86-64; on Arm it also keeps the LLVM module that the archive is compiled
-# from, as target/measure/NAME.bc.
+# library and writes its archive, which is for x86-64; on Arm, and where `archive NAME module` asks for it, it also keeps
+# the LLVM module that the archive is compiled from, as target/measure/NAME.bc.
 . "$(dirname "${BASH_SOURCE[0]}")/tools.sh"
 mkdir -p target/measure
 
@@ -20,10 +20,10 @@ keeping_kit() { # FOLDER FILE
 }
 
 # Where ARCHIVES names a folder, as host/test/run.sh does, an archive that was made in that run is not made again.
-archive() { # NAME
+archive() { # NAME [module]
   local home=${RATTLE_HOME:-}
   if [ -n "${ARCHIVES:-}" ] && [ -e "$ARCHIVES/$1" ]; then return; fi
-  if [ "$machine" != x86_64 ]; then
+  if [ "$machine" != x86_64 ] || [ "${2:-}" = module ]; then
     home=$PWD/target/measure/kit
     keeping_kit "$home" "$PWD/target/measure/$1.bc"
   fi
@@ -40,4 +40,21 @@ linked() { # PROGRAM ARCHIVE FILE..
   local program=$1 archive=$2
   shift 2
   "${tool}gcc" "${strict[@]}" -static -o "$program" "$@" "$archive"
+}
+
+# An archive's functions as one object for this machine. The archive is for x86-64 and is taken as it is there. On Arm,
+# whose emulator's times say nothing, the same LLVM module is compiled for Arm, by the kit's compiler and as the kit
+# compiles it (-O3).
+object_here() { # ARCHIVE MODULE OBJECT
+  local compiler=$toolchain/bin/clang
+  if [ "$machine" = x86_64 ]; then
+    ar p "$1" > "$3" # its only member
+    return
+  fi
+  # As text, without what names x86-64: its layout of data, its name, and its processor.
+  "$compiler" --no-default-config --target=x86_64-unknown-linux-gnu -S -emit-llvm -O3 -Xclang -disable-llvm-passes \
+    -x ir "$2" -o "$3.ll"
+  sed -i -e '/^target /d' -e 's/ "target-cpu"="x86-64"//' "$3.ll"
+  "$compiler" --no-default-config "--target=$machine-unknown-linux-gnu" -ffunction-sections -fdata-sections -fPIC \
+    -O3 -Werror -Wno-override-module -c -x ir "$3.ll" -o "$3"
 }

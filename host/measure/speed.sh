@@ -3,32 +3,16 @@
 # balanced, caterpillar and random trees of 64 and of 512 leaves, and for the check also straight links, from 1 to n.
 # Prints nanoseconds per call of both, and the firmware's divided by Rust's: 1.0 or less is the aim. Ends with 1 if an
 # answer differs, or if a call takes more than TIMES Rust's time, 2 if it is not given.
-#
-# The archive is for x86-64 and is linked there. On Arm, whose emulator's times say nothing, the same LLVM module is
-# compiled for Arm, by the kit's compiler and as the kit compiles it (-O3).
 . "$(dirname "$0")/../archive.sh"
 work=target/measure/speed.d
 times=${1:-2}
 mkdir -p "$work"
 
-compiled_here() { # the archive's module compiled for this machine, as $work/calls.o
-  local compiler=$toolchain/bin/clang
-  # As text, without what names x86-64: its layout of data, its name, and its processor.
-  "$compiler" --no-default-config --target=x86_64-unknown-linux-gnu -S -emit-llvm -O3 -Xclang -disable-llvm-passes \
-    -x ir target/measure/tangle.bc -o "$work/module.ll"
-  sed -i -e '/^target /d' -e 's/ "target-cpu"="x86-64"//' "$work/module.ll"
-  "$compiler" --no-default-config "--target=$machine-unknown-linux-gnu" -ffunction-sections -fdata-sections -fPIC \
-    -O3 -Werror -Wno-override-module -c -x ir "$work/module.ll" -o "$work/calls.o"
-}
-
 own_compiler
 peer_cargo build
 archive tangle
-case $machine in
-  x86_64) calls=target/staticlib/libtangle.a ;;
-  *) compiled_here; calls=$work/calls.o ;;
-esac
-gcc "${strict[@]}" -o "$work/speed" host/measure/speed.c "$calls"
+object_here target/staticlib/libtangle.a target/measure/tangle.bc "$work/calls.o"
+gcc "${strict[@]}" -o "$work/speed" host/measure/speed.c "$work/calls.o"
 
 line_for() { # CALL FILE: desk's line for the same call
   local hex

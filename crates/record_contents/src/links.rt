@@ -1,10 +1,11 @@
 // Whether links are one-to-one: each number from 1 to n stands among the n links.
 ghost use mathlib.Core.Path.{_≡_};
-ghost use Prim.Native.Nat.{_≤_};
+ghost use Prim.Native.Nat.{_+_, _*_, _≤_};
 ghost use lib.ListN.{length, take};
 ghost use Rattle.record_contents.specs.Marks.{marking, markingAll};
-ghost use Rattle.record_fields.specs.Fields.{mostLeaves};
+ghost use Rattle.record_fields.specs.Fields.{mostLeaves, numbers};
 ghost use Rattle.record_fields.specs.Refusals.{oneToOne};
+use record_fields::copying::number;
 use record_fields::fields::LEAVES;
 use work_seen_places::all_before;
 use work_seen_places::mark;
@@ -31,6 +32,18 @@ fn mark_links(links: &[u16; LEAVES], n: usize, seen: &mut [u64; 8])
     let mut i = 0;
     while i < n {
         mark_link(seen, links[i], n);
+        i += 1;
+    }
+}
+
+// Marks each of the n links from place `at` of a record on that is from 1 to n.
+pub fn mark_links_at(s: &[u8], at: usize, n: usize, seen: &mut [u64; 8])
+    requires { ⌜ (n ≤ mostLeaves) × (at + 2 * n ≤ length (now s)) ⌝ }
+    ensures { λ _. ⌜ now (seen .exit) ≡ markingAll n (now (seen .entry)) (numbers (now (s .entry)) at n) ⌝ }
+{
+    let mut i = 0;
+    while i < n {
+        mark_link(seen, number(s, at + 2 * i), n);
         i += 1;
     }
 }

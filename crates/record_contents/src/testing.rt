@@ -6,6 +6,7 @@ ghost use Rattle.work_trees.specs.Rows.{upper, lower};
 ghost use Rattle.work_tree_rule.specs.Rule.{badRow};
 ghost use Rattle.record_fields.specs.Fields.{mostLeaves, numbers, partsOf, Sized};
 ghost use Rattle.record_fields.specs.Refusals.{contentsRefusal, isLayout, oneToOne};
+use crate::links::mark_links_at;
 use crate::links::one_to_one;
 use record_fields::copying::copied;
 use record_fields::fields::LEAVES;
@@ -16,12 +17,12 @@ use record_fields::fields::left_layout_at;
 use record_fields::fields::links_at;
 use record_fields::fields::right_layout_at;
 use record_fields::fields::right_rows_at;
-use record_fields::fill_links;
 use record_fields::fill_rows;
 use record_fields::refusal::LAYOUT;
 use record_fields::refusal::LEFT_ROW;
 use record_fields::refusal::LINKS;
 use record_fields::refusal::RIGHT_ROW;
+use work_seen_places::all_before;
 
 // The lowest of the n-1 rows from place `at` on that breaks the tree rule, or 0.
 pub fn bad_row_at(s: &[u8], at: usize, n: u16) -> u16
@@ -55,9 +56,9 @@ fn one_to_one_at(s: &[u8], at: usize, n: u16) -> bool
     requires { ⌜ (n ≤ mostLeaves) × (at + 2 * n ≤ length (now s)) ⌝ }
     ensures { λ r. ⌜ r ≡ oneToOne n (numbers (now (s .entry)) at n) ⌝ }
 {
-    let mut links = [0u16; LEAVES];
-    fill_links(s, at, n, &mut links);
-    one_to_one(&links, n as usize)
+    let mut seen = [0u64; 8];
+    mark_links_at(s, at, n as usize, &mut seen);
+    all_before(&seen, n as usize)
 }
 
 // Whether the n links of a list are one-to-one.

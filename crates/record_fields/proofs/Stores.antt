@@ -54,6 +54,11 @@ length-numbers s at n = length-map-range (λ i. two s (at + 2 * i)) 0 n
 pub length-bytes : (s : List ℕ) (k m : ℕ) → k + m ≤ length s → length (bytes s k m) ≡ m
 length-bytes s k m h = length-take-le m (drop k s) (omega (arith, length-drop k s))
 
+-- the next number after the first i
+pub numbers-more : (s : List ℕ) (at i : ℕ) → numbers s at (i + 1) ≡ numbers s at i ++ (two s (at + 2 * i) ∷ [])
+unfolding numbers
+numbers-more s at i = map-range-end (λ k. two s (at + 2 * k)) i
+
 -- the next entry of a list after its first i
 pub take-more : (xs : List ℕ) (i : ℕ) → i < length xs → take (i + 1) xs ≡ take i xs ++ (getD xs i 0 ∷ [])
 take-more xs i h = rw (add-one i) (take-suc xs i 0 h)
