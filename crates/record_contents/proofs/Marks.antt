@@ -5,7 +5,7 @@ use mathlib.Core.Bool.{Bool, true, false, cond, _&&_, _||_, or-false, or-assoc, 
 use mathlib.Core.List.{List, [], _∷_, _++_}
 use mathlib.Core.Logic.{_≢_}
 use native.Mathlib.Omega.{arith}
-use borrow.Author.Tests.{ne-eqb, eqb-true, eqb-false, ltb-true, ltb-false, lt-ltb}
+use borrow.Author.Tests.{eq-eqb, ne-eqb, eqb-true, eqb-false, ltb-true, ltb-false, lt-ltb, le-ltb}
 use lib.Dec.{eqb, ltb}
 use lib.ListN.{length, replicate}
 use Rattle.tanglegram.specs.Lists.{range}
@@ -18,24 +18,22 @@ use Rattle.record_fields.specs.Refusals.{all, oneToOne}
 use Rattle.record_fields.proofs.Tests.{all-append}
 use Rattle.record_contents.specs.Marks.{marking, markingAll}
 
--- ---- a number that can't be marked
+-- ---- a number that can be marked, and those that can't
 
-pub zero-marks-nothing : (n : ℕ) (w : List ℕ) → marking n w 0 ≡ w
-zero-marks-nothing n w = refl
+module _ (n : ℕ) (w : List ℕ) where
+  pub from-1-to-n-marks : (x : ℕ) → 1 ≤ x → x ≤ n → marking n w x ≡ markAt w (pred x)
+  from-1-to-n-marks x some most = rw (ne-eqb x 0 (λ e. omega arith), le-ltb n x most) refl
 
-pub above-marks-nothing : (n : ℕ) (w : List ℕ) (x : ℕ) → n < x → marking n w x ≡ w
-above-marks-nothing n w x h = go (eqb x 0)
-  where
-    go : (b : Bool) → cond (b || ltb n x) w (markAt w (pred x)) ≡ w
-    go true = refl
-    go false = rw (lt-ltb n x h) refl
+  pub zero-marks-nothing : (x : ℕ) → x ≡ 0 → marking n w x ≡ w
+  zero-marks-nothing x e = rw (eq-eqb x 0 e) refl
 
--- a link of n + 1, and one of 65,535
-pub next-marks-nothing : (n : ℕ) (w : List ℕ) → marking n w (n + 1) ≡ w
-next-marks-nothing n w = above-marks-nothing n w (n + 1) (omega arith)
+  pub above-marks-nothing : (x : ℕ) → n < x → marking n w x ≡ w
+  above-marks-nothing x h = rw (ne-eqb x 0 (λ e. omega arith), lt-ltb n x h) refl
 
-pub last-marks-nothing : (n : ℕ) (w : List ℕ) → n ≤ mostLeaves → marking n w 65535 ≡ w
-last-marks-nothing n w h = above-marks-nothing n w 65535 (omega arith)
+-- a link of 0, one of n + 1 and one of 65,535
+pub marks-nothing : (n : ℕ) (w : List ℕ) → n ≤ mostLeaves → (marking n w 0 ≡ w) × (marking n w (n + 1) ≡ w) × (marking n w 65535 ≡ w)
+marks-nothing n w most =
+    (zero-marks-nothing n w 0 refl, above-marks-nothing n w (n + 1) (omega arith), above-marks-nothing n w 65535 (omega arith))
 
 -- ---- one number
 

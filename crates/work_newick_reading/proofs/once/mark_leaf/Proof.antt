@@ -1,8 +1,10 @@
 -- `mark_leaf`: each test, and the mark.
-use mathlib.Core.Path.{sym, _∙_}
+use Prim.Native.Nat.{pred, _-_}
+use mathlib.Core.Path.{_≡_, sym, ap, _∙_}
 use native.Mathlib.Numerals.{sub-one}
 use native.Mathlib.Omega.{arith}
 use Rattle.work_newick_reading.proofs.OnceLaws.{marked-no-leaf, marked-0, marked-above, marked-twice, marked-new}
+use Rattle.work_seen_places.specs.Seen.{markAt}
 use borrow.Author.Needs.{needs}
 use Rattle.work_newick_reading.proofs.once.mark_leaf.Statement.{statement}
 use Rattle.work_newick_reading.proofs.once.mark_leaf.Tie as tie
@@ -35,8 +37,11 @@ returns-5 : tie.Need-returns-5
 returns-5 c =
     let at-mark = c .before .before in
     let tested = at-mark .before .before .before in
+    let a = tested .before .before .before .args in
     let new = sym (at-mark .before .is-marked .ensures) ∙ at-mark .if4 .left in
-    rw (c .mark .ensures, sub-one (tested .before .before .before .args .x))
+    let place : a .x - 1 ≡ pred (a .x) = omega arith in
+    let marked = c .mark .ensures ∙ ap (markAt (a .seen .now)) place in
+    rw marked
     (marked-new _ _ _ (tested .before .if2 .left) (tested .before .before .if1 .left) (tested .if3 .left) (rw (sub-one _) at new))
 
 pub mark-leaf-spec : {M : Type 1} → statement M
