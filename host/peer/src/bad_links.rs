@@ -6,7 +6,7 @@
 use crate::made::{any_record, Made};
 use crate::random::Random;
 
-const LEAVES: [usize; 13] = [1, 2, 3, 63, 64, 65, 127, 128, 129, 448, 449, 511, 512];
+const LEAVES: [usize; 13] = [1, 2, 3, 65, 64, 63, 127, 128, 129, 448, 449, 511, 512];
 
 /// Up to so many leaves each lost link is wrong in every way, and in one way beyond.
 const EVERY_WAY: usize = 65;
@@ -30,6 +30,7 @@ fn with_a_link_lost(good: &Made) -> Vec<Made> {
     let mut bad = Vec::new();
     let mut lost = vec![1, 63, 64, 65, 128, 129, 448, 449, good.n - 1, good.n];
     lost.retain(|link| (1..=good.n).contains(link));
+    lost.sort_unstable();
     lost.dedup();
     for (index, &link) in lost.iter().enumerate() {
         let ways = wrong_for(link, good.n);

@@ -160,11 +160,11 @@ fn rows_that_break_the_rule() -> Vec<String> {
     calls
 }
 
-/// Links about the ends of words of 64, right and with one of them wrong: in a record's bytes and
-/// in the lists of packing.
+/// Links with one of them wrong, and right ones, about the ends of words of 64: in a record's bytes
+/// and in the lists of packing.
 fn links_that_are_not_one_to_one() -> Vec<String> {
     let mut calls = Vec::new();
-    for made in bad_links::good().iter().chain(&bad_links::all()) {
+    for made in bad_links::all().iter().chain(&bad_links::good()) {
         calls.push(lines::plain("check", &made.bytes()));
         if made.n <= 65 || made.n == 512 {
             calls.push(lines::pack(made.n, made, &[]));
