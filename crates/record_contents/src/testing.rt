@@ -9,20 +9,23 @@ ghost use Rattle.record_fields.specs.Refusals.{contentsRefusal, isLayout, oneTo
 use crate::links::mark_links_at;
 use crate::links::one_to_one;
 use record_fields::copying::copied;
+use record_fields::copying::number;
 use record_fields::fields::LEAVES;
 use record_fields::fields::LEFT_ROWS_AT;
-use record_fields::fields::ROW_ARRAY;
-use record_fields::fields::ROW_ARRAY_SIZE_AT;
 use record_fields::fields::left_layout_at;
 use record_fields::fields::links_at;
 use record_fields::fields::right_layout_at;
 use record_fields::fields::right_rows_at;
-use record_fields::fill_rows;
 use record_fields::refusal::LAYOUT;
 use record_fields::refusal::LEFT_ROW;
 use record_fields::refusal::LINKS;
 use record_fields::refusal::RIGHT_ROW;
 use work_seen_places::all_before;
+use work_tree_rule::bad_row;
+use work_tree_rule::row_breaks;
+
+// Objects are below this, so that a mark for each of them has a place.
+const OBJECTS: usize = 2 * LEAVES;
 
 // The lowest of the n-1 rows from place `at` on that breaks the tree rule, or 0.
 pub fn bad_row_at(s: &[u8], at: usize, n: u16) -> u16
@@ -35,9 +38,17 @@ pub fn bad_row_at(s: &[u8], at: usize, n: u16) -> u16
         (lower (numbers (now (s .entry)) at (2 * (n - 1))))
         ⌝ }
 {
-    let mut rows = [0u16; ROW_ARRAY];
-    fill_rows(s, at, n, &mut rows);
-    work_tree_rule::bad_row(&rows)
+    let size = n as usize;
+    let mut marks = [0u8; OBJECTS];
+    let mut i = 1;
+    while i < size {
+        let row = at + 4 * (i - 1);
+        if row_breaks(&mut marks, number(s, row), number(s, row + 2), size + i) {
+            return i as u16;
+        }
+        i += 1;
+    }
+    0
 }
 
 // The lowest of the n-1 rows of a list that breaks the tree rule, or 0.
@@ -45,10 +56,7 @@ pub fn bad_row_in(list: &[u16], n: u16) -> u16
     requires { ⌜ (1 ≤ n) × (n ≤ mostLeaves) × (length (now list) ≡ 2 * (n - 1)) ⌝ }
     ensures { λ r. ⌜ r ≡ badRow n (upper (now (list .entry))) (lower (now (list .entry))) ⌝ }
 {
-    let mut rows = [0u16; ROW_ARRAY];
-    copied(list, &mut rows);
-    rows[ROW_ARRAY_SIZE_AT] = n;
-    work_tree_rule::bad_row(&rows)
+    bad_row(list, n as usize)
 }
 
 // Whether the n links from place `at` on are one-to-one.

@@ -1,4 +1,5 @@
-// The tree rule, tested on a row array (the crate `work_trees`).
+// The tree rule, tested row by row: on a list of rows, or a row at a time by a caller that has them elsewhere.
 mod checking;
 
 pub use checking::bad_row;
+pub use checking::row_breaks;

@@ -1,0 +1,20 @@
+-- The entries of a row that stands in a record: row i's are at places 4(i - 1) and 4(i - 1) + 2 from where the rows begin.
+use Prim.Native.Nat.{ℕ, pred, _+_, _-_, _*_, _≤_, _<_}
+use mathlib.Core.Path.{_≡_, sym, ap, _∙_}
+use mathlib.Core.List.{List}
+use native.Mathlib.Omega.{arith}
+use lib.ListN.{getD}
+use Rattle.work_trees.specs.Rows.{upper, lower}
+use Rattle.record_fields.specs.Fields.{two, numbers}
+use Rattle.record_fields.proofs.Stores.{getD-made}
+
+entry-at : (s : List ℕ) (at m k place : ℕ) → k < m → place ≡ at + 2 * k → two s place ≡ getD (numbers s at m) k 0
+unfolding numbers
+entry-at s at m k place h e = ap (two s) e ∙ sym (getD-made (λ i. two s (at + 2 * i)) m k h)
+
+module _ (s : List ℕ) (at n i : ℕ) (from : 1 ≤ i) (here : i < n) where
+  pub upper-at : two s (at + 4 * (i - 1)) ≡ upper (numbers s at (2 * (n - 1))) i
+  upper-at = entry-at s at (2 * (n - 1)) (2 * pred i) (at + 4 * (i - 1)) (omega arith) (omega arith)
+
+  pub lower-at : two s (at + 4 * (i - 1) + 2) ≡ lower (numbers s at (2 * (n - 1))) i
+  lower-at = entry-at s at (2 * (n - 1)) (2 * pred i + 1) (at + 4 * (i - 1) + 2) (omega arith) (omega arith)
