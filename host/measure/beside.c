@@ -7,9 +7,9 @@
 #include <stdio.h>
 #include <stdlib.h>
 #include <string.h>
-#include <time.h>
 
 #include "../viewer/tangle.h"
+#include "timing.h"
 
 enum { TURNS = 200, BATCH = 250000 };
 
@@ -31,8 +31,6 @@ static union {
     struct tangle_run run;
 } answer;
 
-typedef void call_t(void);
-
 static void lend(void) { memcpy(lent, record, bytes); }
 
 static void check_before(void) { answer.check = before_tangle_check(record, bytes); }
@@ -51,22 +49,6 @@ static const struct {
              {"count", count_before, count_now},
              {"free", free_before, free_now},
              {"run", runs_before, runs_now}};
-
-static double nanoseconds(call_t *call, long times) {
-    struct timespec start, end;
-    clock_gettime(CLOCK_MONOTONIC, &start);
-    for (long i = 0; i < times; i++) {
-        call();
-        __asm__ volatile("" ::: "memory");
-    }
-    clock_gettime(CLOCK_MONOTONIC, &end);
-    return (double)(end.tv_sec - start.tv_sec) * 1e9 + (double)(end.tv_nsec - start.tv_nsec);
-}
-
-static int less(const void *a, const void *b) {
-    double x = *(const double *)a, y = *(const double *)b;
-    return (x > y) - (x < y);
-}
 
 static double tenth(double *turns) {
     qsort(turns, TURNS, sizeof *turns, less);

@@ -5,9 +5,9 @@
 #include <stdio.h>
 #include <stdlib.h>
 #include <string.h>
-#include <time.h>
 
 #include "../viewer/tangle.h"
+#include "timing.h"
 
 enum { BATCHES = 9, BATCH = 50000000 };
 
@@ -15,8 +15,6 @@ enum { BATCHES = 9, BATCH = 50000000 };
  * written so here, since the same module compiled for Arm keeps that argument. */
 struct tangle_run *run_into(struct tangle_run *answer, uint8_t *record, size_t length, uint32_t allowance)
     __asm__("tangle_run");
-
-typedef void call_t(void);
 
 static uint8_t record[TANGLE_MOST_BYTES + 1], lent[TANGLE_MOST_BYTES];
 static size_t bytes;
@@ -37,22 +35,6 @@ static void free_left(void) {
 static void run(void) {
     memcpy(lent, record, bytes);
     run_into(&ran, lent, bytes, TANGLE_MOST_TURNS);
-}
-
-static double nanoseconds(call_t *call, long calls) {
-    struct timespec start, end;
-    clock_gettime(CLOCK_MONOTONIC, &start);
-    for (long i = 0; i < calls; i++) {
-        call();
-        __asm__ volatile("" ::: "memory");
-    }
-    clock_gettime(CLOCK_MONOTONIC, &end);
-    return (double)(end.tv_sec - start.tv_sec) * 1e9 + (double)(end.tv_nsec - start.tv_nsec);
-}
-
-static int less(const void *a, const void *b) {
-    double x = *(const double *)a, y = *(const double *)b;
-    return (x > y) - (x < y);
 }
 
 static double median(call_t *call) {

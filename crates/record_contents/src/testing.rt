@@ -12,6 +12,7 @@ use record_fields::copying::copied;
 use record_fields::copying::number;
 use record_fields::fields::LEAVES;
 use record_fields::fields::LEFT_ROWS_AT;
+use record_fields::fields::OBJECTS;
 use record_fields::fields::left_layout_at;
 use record_fields::fields::links_at;
 use record_fields::fields::right_layout_at;
@@ -23,9 +24,6 @@ use record_fields::refusal::RIGHT_ROW;
 use work_seen_places::all_before;
 use work_tree_rule::bad_row;
 use work_tree_rule::row_breaks;
-
-// Objects are below this, so that a mark for each of them has a place.
-const OBJECTS: usize = 2 * LEAVES;
 
 // The lowest of the n-1 rows from place `at` on that breaks the tree rule, or 0.
 pub fn bad_row_at(s: &[u8], at: usize, n: u16) -> u16

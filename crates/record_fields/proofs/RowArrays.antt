@@ -1,4 +1,4 @@
--- A row array filled with a list of rows: its rows are the list's, so that it is good or bad as they are.
+-- A row array filled with a list of rows: its rows are the list's, so that it is good if they are.
 use Prim.Native.Nat.{ℕ, pred, _+_, _-_, _*_, _≤_, _<_}
 use mathlib.Core.Path.{_≡_, sym, ap, _∙_, subst}
 use mathlib.Core.List.{List}
@@ -7,9 +7,8 @@ use lib.ListN.{length, getD, set, take, drop, List·getD-append}
 use lib.Seq.{sets, sets-eq, length-sets, getD-set-same, getD-set-other, take-append-seam}
 use Rattle.tanglegram.specs.Tree.{tree, Rule}
 use Rattle.work_trees.specs.Rows.{upper, lower, size, treeOf, GoodRows}
-use Rattle.work_tree_rule.specs.Rule.{badRow}
 use Rattle.work_trees.proofs.Objects.{object-cong}
-use Rattle.work_tree_rule.proofs.Rule.{bad-row-cong, rule-cong}
+use Rattle.work_tree_rule.proofs.Rule.{rule-cong}
 
 -- ---- a list stored from the first place on
 
@@ -34,12 +33,6 @@ module _ (l rs : List ℕ) (n : ℕ) (full : length l ≡ 1023) (e : length rs �
   pub rows-filled : (i : ℕ) → 1 ≤ i → i < n →
       (upper (set (sets l 0 rs) 1022 n) i ≡ upper rs i) × (lower (set (sets l 0 rs) 1022 n) i ≡ lower rs i)
   rows-filled i p q = (entry-filled (2 * pred i) (omega arith), entry-filled (2 * pred i + 1) (omega arith))
-
-  -- the array is bad where the rows are
-  pub bad-row-filled : 1 ≤ n → let T = set (sets l 0 rs) 1022 n in badRow (size T) (upper T) (lower T) ≡ badRow n (upper rs) (lower rs)
-  bad-row-filled p =
-      let T = set (sets l 0 rs) 1022 n in
-      ap (λ k. badRow k (upper T) (lower T)) size-filled ∙ bad-row-cong n (upper T) (lower T) (upper rs) (lower rs) rows-filled
 
   module _ (p : 1 ≤ n) (rule : Rule n (upper rs) (lower rs)) where
     back : (i : ℕ) → 1 ≤ i → i < n → (upper rs i ≡ upper (set (sets l 0 rs) 1022 n) i) × (lower rs i ≡ lower (set (sets l 0 rs) 1022 n) i)

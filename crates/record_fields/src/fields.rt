@@ -15,10 +15,8 @@ pub const MOST_HANDS: usize = 1024;
 pub const MOST_TURNS: u32 = 130818;
 // the places of an array that has one for each leaf
 pub const LEAVES: usize = MOST_LEAVES as usize;
-// the places of a row array
-pub const ROW_ARRAY: usize = 2 * LEAVES - 1;
-// where n stands in a row array: in its last place
-pub const ROW_ARRAY_SIZE_AT: usize = ROW_ARRAY - 1;
+// the places of an array that has one for each object
+pub const OBJECTS: usize = 2 * LEAVES;
 // a record's first bytes
 pub const MARK_TGP: [u8; 3] = [b'T', b'G', b'P'];
 // the version of the format

@@ -144,7 +144,7 @@ module _ (n : ℕ) (up low up′ low′ : ℕ → ℕ) (same : (i : ℕ) → 1 �
       rw (s .0, s .1, used-cong n up low up′ low′ same (pred i) (omega arith)) refl
 
   -- they have the same bad row, and keep the rule alike
-  pub bad-row-cong : badRow n up low ≡ badRow n up′ low′
+  bad-row-cong : badRow n up low ≡ badRow n up′ low′
   unfolding badRow
   bad-row-cong = first-cong (breaks n up low) (breaks n up′ low′) 1 (pred n) (λ i p q. breaks-cong i p (omega arith))
 

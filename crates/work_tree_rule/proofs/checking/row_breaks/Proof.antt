@@ -31,14 +31,16 @@ element-write-marks : tie.Need-element-write-marks
 element-write-marks c =
     let start = c .before .before .before .before .before .before .before in
     let s = start .args in
-    omega (arith, start .pre, allowed-below (s .marks .now) (s .made) (s .b) (sym (c .before .refused2 .ensures) ∙ c .if3 .left))
+    let allowed = sym (c .before .refused2 .ensures) ∙ c .if3 .left in
+    omega (arith, start .pre, allowed-below (s .marks .now) (s .made) (s .b) allowed)
 
 element-write-marks-2 : tie.Need-element-write-marks-2
 element-write-marks-2 c =
     let at-first = c .before .before .before in
     let start = at-first .before .before .before .before in
     let s = start .args in
-    omega (arith, start .pre, allowed-below (s .marks .now) (s .made) (s .a) (sym (at-first .before .refused .ensures) ∙ at-first .if2 .left))
+    let allowed = sym (at-first .before .refused .ensures) ∙ at-first .if2 .left in
+    omega (arith, start .pre, allowed-below (s .marks .now) (s .made) (s .a) allowed)
 
 returns-4 : tie.Need-returns-4
 returns-4 c =
