@@ -12,9 +12,9 @@ entry-at : (s : List ℕ) (at m k place : ℕ) → k < m → place ≡ at + 2 * 
 unfolding numbers
 entry-at s at m k place h e = ap (two s) e ∙ sym (getD-made (λ i. two s (at + 2 * i)) m k h)
 
-module _ (s : List ℕ) (at n i : ℕ) (from : 1 ≤ i) (here : i < n) where
-  pub upper-at : two s (at + 4 * (i - 1)) ≡ upper (numbers s at (2 * (n - 1))) i
-  upper-at = entry-at s at (2 * (n - 1)) (2 * pred i) (at + 4 * (i - 1)) (omega arith) (omega arith)
+module _ (s : List ℕ) (at n i : ℕ) (from : 1 ≤ i) (here : i < n) (place : ℕ) where
+  pub upper-at : place ≡ at + 4 * (i - 1) → two s place ≡ upper (numbers s at (2 * (n - 1))) i
+  upper-at e = entry-at s at (2 * (n - 1)) (2 * pred i) place (omega arith) (omega arith)
 
-  pub lower-at : two s (at + 4 * (i - 1) + 2) ≡ lower (numbers s at (2 * (n - 1))) i
-  lower-at = entry-at s at (2 * (n - 1)) (2 * pred i + 1) (at + 4 * (i - 1) + 2) (omega arith) (omega arith)
+  pub lower-at : place ≡ at + 4 * (i - 1) + 2 → two s place ≡ lower (numbers s at (2 * (n - 1))) i
+  lower-at e = entry-at s at (2 * (n - 1)) (2 * pred i + 1) place (omega arith) (omega arith)

@@ -58,9 +58,10 @@ returns c =
     let start = in-loop .before .before .before in
     let a = start .args in
     let l = in-loop .before .loop in
-    let is-upper = two .before .number .ensures ∙ upper-at (a .s .now) (a .at) (a .n) (l .i) (l .inv .from) (in-loop .loop-test .taken) in
-    let is-lower = two .number2 .ensures ∙ lower-at (a .s .now) (a .at) (a .n) (l .i) (l .inv .from) (in-loop .loop-test .taken) in
-    bad-here _ _ _ _ _ (l .inv) (in-loop .loop-test .taken) (start .pre .1) _ _ is-upper is-lower _ (tested .ensures .0) (c .if1 .taken)
+    let here = in-loop .loop-test .taken in
+    let is-upper = two .before .number .ensures ∙ upper-at (a .s .now) (a .at) (a .n) (l .i) (l .inv .from) here _ (omega arith) in
+    let is-lower = two .number2 .ensures ∙ lower-at (a .s .now) (a .at) (a .n) (l .i) (l .inv .from) here _ (omega arith) in
+    bad-here _ _ _ _ _ (l .inv) here (start .pre .1) _ _ is-upper is-lower _ (tested .ensures .0) (c .if1 .taken)
 
 add-i : tie.Need-add-i Inv-loop μ-loop
 add-i c = search needs
@@ -76,9 +77,10 @@ loop-again c =
     let start = in-loop .before .before .before in
     let a = start .args in
     let l = in-loop .before .loop in
-    let is-upper = two .before .number .ensures ∙ upper-at (a .s .now) (a .at) (a .n) (l .i) (l .inv .from) (in-loop .loop-test .taken) in
-    let is-lower = two .number2 .ensures ∙ lower-at (a .s .now) (a .at) (a .n) (l .i) (l .inv .from) (in-loop .loop-test .taken) in
-    checked-more _ _ _ _ _ (l .inv) (in-loop .loop-test .taken) (start .pre .1) _ _ is-upper is-lower _ (tested .ensures .0) _
+    let here = in-loop .loop-test .taken in
+    let is-upper = two .before .number .ensures ∙ upper-at (a .s .now) (a .at) (a .n) (l .i) (l .inv .from) here _ (omega arith) in
+    let is-lower = two .number2 .ensures ∙ lower-at (a .s .now) (a .at) (a .n) (l .i) (l .inv .from) here _ (omega arith) in
+    checked-more _ _ _ _ _ (l .inv) here (start .pre .1) _ _ is-upper is-lower _ (tested .ensures .0) _
     (tested .ensures .1) (c .if1 .left)
 
 returns-2 : tie.Need-returns-2 Inv-loop μ-loop

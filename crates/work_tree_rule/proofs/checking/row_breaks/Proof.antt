@@ -1,5 +1,5 @@
 -- `row_breaks` meets its contract: each test is one of the definition's, and a row that passes all has its entries marked.
-use mathlib.Core.Path.{refl, sym, _∙_}
+use mathlib.Core.Path.{_≡_, refl, sym, _∙_}
 use native.Mathlib.Omega.{arith}
 use borrow.Author.Needs.{needs}
 use Rattle.work_tree_rule.proofs.Marks.{broken-same, broken-first, broken-second, kept, allowed-below}
@@ -9,7 +9,8 @@ use Rattle.work_tree_rule.proofs.checking.row_breaks.Tie as tie
 returns : tie.Need-returns
 returns c =
     let s = c .before .args in
-    (sym (broken-same (s .marks .now) (s .made) (s .a) (s .b) (c .if1 .taken)), refl)
+    let same : s .a ≡ s .b = omega (arith, c .if1 .taken) in
+    (sym (broken-same (s .marks .now) (s .made) (s .a) (s .b) same), refl)
 
 refused-requires : tie.Need-refused-requires
 refused-requires c κs = search needs
