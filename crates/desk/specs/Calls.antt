@@ -1,5 +1,5 @@
 -- The calls of the desk: the name of each, how many words its line has, and which of them says the bytes that it is lent.
-use Prim.Native.Nat.{ℕ, zero, suc}
+use Prim.Native.Nat.{ℕ}
 use mathlib.Core.List.{List, [], _∷_}
 use lib.ListN.{getD}
 use Rattle.desk_words.specs.Words.{placeOf}

@@ -3,11 +3,11 @@ use Prim.Native.Nat.{ℕ, suc, _+_, _-_, _≤_, _<_}
 use native.Mathlib.Omega.{arith}
 use native.Mathlib.Numerals.{add-one}
 use native.Mathlib.Nat.{eq-or-lt-of-le}
-use mathlib.Core.Path.{_≡_, refl, sym, ap, subst, _∙_}
+use mathlib.Core.Path.{_≡_, refl, ap, _∙_}
 use mathlib.Core.Logic.{_⊎_, inl, inr}
-use mathlib.Core.Bool.{Bool, true, false, cond}
-use mathlib.Core.List.{List, [], _∷_}
-use mathlib.Core.Option.{Option, none, some, Option·getD}
+use mathlib.Core.Bool.{true, false}
+use mathlib.Core.List.{List, []}
+use mathlib.Core.Option.{Option, none, some}
 use lib.ListN.{length, take, drop, set, length-drop}
 use lib.Seq.{drop-drop, take-all}
 use Rattle.desk_words.specs.Words.{upToStop, behind, pieces, dash}
@@ -15,7 +15,7 @@ use Rattle.desk_words.specs.Bytes.{joined}
 use Rattle.desk_words.specs.Lists.{eachIn, entriesIn}
 use Rattle.desk_words.specs.Puts.{nowhere, Puts}
 use Rattle.desk_words.proofs.Parting.{before-within, parts-last, parts-more}
-use Rattle.desk_words.proofs.Filling.{Filling, told, fill-none, fill-more, fill-bad, fill-end, fill-full}
+use Rattle.desk_words.proofs.Filling.{Filling, fill-none, fill-more, fill-bad, fill-end, fill-full}
 
 -- The bytes of a word from one place to another.
 abbrev pub part : List ℕ → ℕ → ℕ → List ℕ

@@ -11,7 +11,7 @@ use mathlib.Core.Logic.{_⊎_, inl, inr}
 use borrow.Author.Tests.{leb-true, eqb-false, eq-eqb, ne-eqb, le-leb, lt-leb}
 use lib.Dec.{leb, eqb}
 use lib.ListN.{length, getD, drop, set, drop-of-length-le}
-use lib.Seq.{drop-cons, drop-length}
+use lib.Seq.{drop-cons}
 use Rattle.desk_words.specs.Words.{dash}
 use Rattle.desk_words.specs.Bytes.{hexOf, byteIn, joined, pairsIn, pairsOf, bytesIn}
 use Rattle.desk_words.specs.Puts.{nowhere, Puts}

@@ -2,7 +2,6 @@
 use Prim.Native.Nat.{ℕ, zero, suc, pred, _≤_, _<_}
 use mathlib.Core.Path.{_≡_, refl, sym, ap, _∙_, subst}
 use mathlib.Core.Bool.{Bool, true, false}
-use mathlib.Core.List.{List}
 use native.Mathlib.Omega.{arith}
 use borrow.Author.Tests.{eq-eqb}
 use Rattle.tanglegram.specs.Lists.{bit}

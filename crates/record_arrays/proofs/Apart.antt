@@ -1,10 +1,10 @@
 -- A record taken apart: arrays with an order, with the links, and with a side in memory, and the layouts written back.
 use Prim.Native.Nat.{ℕ, _+_, _-_, _≤_}
-use mathlib.Core.Path.{_≡_, refl, sym, ap, ap₂, _∙_}
+use mathlib.Core.Path.{_≡_, sym, ap, ap₂, _∙_}
 use mathlib.Core.List.{List, [], _++_, append-assoc}
 use native.Mathlib.Omega.{arith}
 use lib.ListN.{length, take, drop, length-append, length-take, length-drop, drop-of-length-le}
-use lib.Seq.{sets, sets-eq, take-at, drop-at}
+use lib.Seq.{sets, sets-eq, take-at}
 use Rattle.tanglegram.specs.Tree.{leaves}
 use Rattle.tanglegram.specs.Run.{Side, left, right}
 use Rattle.tanglegram.specs.Table.{layout, orderOf}
@@ -13,13 +13,12 @@ use Rattle.work_trees.specs.Rows.{size, treeOf}
 use Rattle.work_trees.specs.Exchange.{LaidOut}
 use Rattle.work_trees.proofs.Laid.{laid-out-order}
 use Rattle.work_places.specs.Arrays.{OneToN}
-use Rattle.record_fields.specs.Fields.{numbers, linksAt, leftLayoutAt, rightLayoutAt, lengthOf, sizeOf, parts}
+use Rattle.record_fields.specs.Fields.{numbers, linksAt, leftLayoutAt, rightLayoutAt, lengthOf, parts}
 use Rattle.record_fields.specs.Meaning.{tableOf, layoutsOf, relaid}
 use Rattle.record_fields.proofs.Stores.{length-numbers}
 use Rattle.record_fields.proofs.RowArrays.{take-sets}
 use Rattle.work_linked_trees.specs.Memory.{layoutsFrom}
 use Rattle.record_arrays.specs.Sides.{RecordOver}
-use Rattle.record_arrays.specs.Apart.{OrdersTaken, TakenApart}
 use Rattle.record_arrays.proofs.AsItStands.{side-perm, side-links, linked-once}
 
 -- as many stores as a list has places

@@ -1,18 +1,17 @@
 -- A record with another hold: all other parts stay, and it is accepted again.
-use Prim.Native.Nat.{ℕ, zero, suc, _+_, _-_, _*_, _≤_, _<_}
-use mathlib.Core.Path.{_≡_, refl, sym, ap, ap₂, _∙_}
+use Prim.Native.Nat.{ℕ, zero, suc, _+_, _-_, _*_, _<_}
+use mathlib.Core.Path.{_≡_, refl, sym, ap, _∙_}
 use mathlib.Core.Bool.{true}
 use mathlib.Core.List.{List, [], _∷_}
 use mathlib.Core.Logic.{_≢_}
 use native.Mathlib.Omega.{arith}
 use lib.ListN.{length, getD, set, take, drop, length-set}
 use lib.Seq.{getD-set-same, getD-set-other}
-use Rattle.tanglegram.specs.Lists.{range}
-use Rattle.record_fields.specs.Fields.{two, numbers, bytes, holdAt, holdOf, sizeOf, rightAt, linksAt, leftLayoutAt, rightLayoutAt}
+use Rattle.record_fields.specs.Fields.{two, numbers, bytes, holdAt, sizeOf, rightAt, linksAt, leftLayoutAt, rightLayoutAt}
 use Rattle.record_fields.specs.Fields.{lengthOf, Parts, given, partsOf, parts}
 use Rattle.record_fields.specs.Refusals.{isMark, isHold, noSize, headingRefusal, contentsRefusal, refusal}
 use Rattle.record_fields.proofs.Stores.{numbers-ext}
-use Rattle.record_fields.proofs.Heading.{GoodHeading, heading-0, unsized}
+use Rattle.record_fields.proofs.Heading.{heading-0, unsized}
 use Rattle.record_fields.proofs.Contents.{contents-0}
 use Rattle.record_fields.proofs.Acceptance.{accepted-heading, accepted-parts, else-second}
 

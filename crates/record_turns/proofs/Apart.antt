@@ -1,24 +1,24 @@
 -- A record taken apart: the table in its arrays is its own, so what freeing and a run make of the arrays is what they make of the record.
 use Prim.Native.Nat.{ℕ, _-_, _≤_}
-use mathlib.Core.Path.{_≡_, refl, sym, ap, ap₂, _∙_}
+use mathlib.Core.Path.{_≡_, sym, ap, ap₂, _∙_}
 use mathlib.Core.List.{List}
 use native.Mathlib.Omega.{arith}
 use lib.ListN.{length, take, replicate}
 use lib.Seq.{length-take-le}
 use Rattle.tanglegram.specs.Lists.{bit}
 use Rattle.tanglegram.specs.Run.{Side, left, right, run}
-use Rattle.tanglegram.specs.Table.{Table, Layouts, linked, crossings, free}
+use Rattle.tanglegram.specs.Table.{linked, crossings, free}
 use Rattle.record_fields.specs.Fields.{partsOf}
-use Rattle.record_fields.specs.Meaning.{tableOf, layoutsOf, relaid}
+use Rattle.record_fields.specs.Meaning.{tableOf, relaid}
 use Rattle.work_trees.specs.Exchange.{givenTree}
 use Rattle.work_trees.specs.Rows.{size}
 use Rattle.record_arrays.specs.Sides.{RecordOver}
 use Rattle.record_arrays.specs.Apart.{TakenApart}
-use Rattle.work_linked_trees.specs.Memory.{here, layoutsFrom, InMemory, SideFreed}
+use Rattle.work_linked_trees.specs.Memory.{here, layoutsFrom, SideFreed}
 use Rattle.work_linked_trees.proofs.SideFreed.{freed-then}
 use Rattle.work_turns.specs.Taken.{RunTaken}
 use Rattle.work_turns.proofs.Taken.{run-then}
-use Rattle.record_turns.specs.Worked.{RecordFreed, RecordRan, ranTo}
+use Rattle.record_turns.specs.Worked.{RecordFreed, RecordRan}
 
 module _ {s : List ℕ} {n : ℕ} {links L l R r : List ℕ} (g : RecordOver s n) (t : TakenApart s n links L l R r) where
   -- the table in the arrays

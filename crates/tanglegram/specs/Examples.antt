@@ -6,13 +6,13 @@ use mathlib.Core.List.{List, [], _∷_, map}
 use lib.Dec.{eqb}
 use lib.ListN.{getD}
 use Rattle.tanglegram.specs.Lists.{place, range}
-use Rattle.tanglegram.specs.Tree.{Tree, leaves, deep, object, tree}
-use Rattle.tanglegram.specs.Order.{order, write}
-use Rattle.tanglegram.specs.Crossings.{over, across, pairs, count}
-use Rattle.tanglegram.specs.Freeing.{choose, freed}
+use Rattle.tanglegram.specs.Tree.{Tree, leaves, object, tree}
+use Rattle.tanglegram.specs.Order.{order}
+use Rattle.tanglegram.specs.Crossings.{over, pairs, count}
+use Rattle.tanglegram.specs.Freeing.{freed}
 use Rattle.tanglegram.specs.Run.{Side, left, right, go, run, after}
 use Rattle.tanglegram.specs.Table.{Table, Layouts, pick, linked, crossedPairs, orderOf, crossings, free}
-use Rattle.tanglegram.specs.Entanglement.{sum, displacement, worst}
+use Rattle.tanglegram.specs.Entanglement.{displacement, worst}
 
 -- A case: n, the rows of both trees (upper then lower, row after row), the links, both layouts, an allowance.
 pub record Case : Type 0 where

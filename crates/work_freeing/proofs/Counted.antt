@@ -8,7 +8,7 @@ use native.Mathlib.Decide.{ℕ-discrete}
 use native.Mathlib.Nat.{mul-le-mul}
 use native.Mathlib.Omega.{arith}
 use borrow.Author.Tests.{le-leb}
-use lib.ListN.{length, getD, set, take, drop, replicate, length-append, length-map, length-set, length-replicate, getD-replicate}
+use lib.ListN.{length, getD, set, take, drop, length-append, length-map, length-set}
 use lib.Seq.{drop-cons, getD-take, getD-set-same, getD-set-other}
 use Rattle.tanglegram.specs.Lists.{Distinct, range, place}
 use Rattle.tanglegram.specs.Tree.{Tree, leaf, fork, leaves}
@@ -19,7 +19,6 @@ use Rattle.tanglegram.proofs.Turning.{leaf-product}
 use Rattle.work_trees.specs.Rows.{upper, lower, size, objectOf, treeOf, GoodRows, LeafCounts, countOf}
 use Rattle.work_trees.proofs.LeafCounts.{count-is}
 use Rattle.work_trees.proofs.ByNumber.{row-at}
-use Rattle.work_trees.proofs.RowArray.{upper-place, lower-place}
 use Rattle.work_trees.proofs.Walked.{length-leaves, leaves-leaf}
 use Rattle.work_places.specs.Arrays.{at, falls}
 use Rattle.work_places.proofs.OneToOne.{at-place-leaf}

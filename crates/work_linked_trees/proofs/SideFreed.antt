@@ -1,10 +1,9 @@
 -- A side in memory is freed: by the far places of its leaves' links it is freed as its table says, and the sums of its rows' own
 -- crossings are the counts. Over any fair table; two linked trees in memory are one.
-use Prim.Native.Nat.{ℕ, pred, _≤_}
+use Prim.Native.Nat.{ℕ, pred}
 use mathlib.Core.Path.{_≡_, refl, sym, ap, subst, _∙_}
 use mathlib.Core.List.{List, List·Permᴰ, Permᴰ·symm}
-use native.Mathlib.Omega.{arith}
-use lib.ListN.{length, take}
+use lib.ListN.{take}
 use Rattle.tanglegram.specs.Lists.{Each, range}
 use Rattle.tanglegram.specs.Tree.{Tree, leaves, rows}
 use Rattle.tanglegram.specs.Order.{order}

@@ -10,7 +10,6 @@ use Rattle.tanglegram.specs.Run.{left, right, other}
 use Rattle.tanglegram.proofs.Sides.{side-most, other-side}
 use Rattle.record_fields.specs.Fields.{parts}
 use Rattle.work_places.specs.Arrays.{OneToN}
-use Rattle.work_orders.specs.Between.{Between}
 use Rattle.record_arrays.specs.Shown.{shownOrder}
 use Rattle.record_arrays.specs.Sides.{sideOf}
 use Rattle.record_arrays.proofs.Apart.{order-taken, order-one, links-taken, links-one}

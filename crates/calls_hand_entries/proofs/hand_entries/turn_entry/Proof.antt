@@ -1,6 +1,6 @@
 -- `turn_entry` meets its contract: `turn_hand`'s own, at numbers that are not too large.
 use Prim.Native.Nat.{_≤_}
-use mathlib.Core.Path.{_≡_, sym, _∙_}
+use mathlib.Core.Path.{_∙_}
 use native.Mathlib.Omega.{arith}
 use Rattle.calls_hand_entries.specs.Entries.{narrow}
 use Rattle.calls_hand_entries.proofs.Narrowed.{narrow-small, narrow-handed}

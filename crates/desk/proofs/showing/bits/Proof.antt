@@ -1,7 +1,6 @@
 -- `bits`: a float that equals itself is a number.
 use mathlib.Core.Path.{_≡_, refl}
 use mathlib.Core.Bool.{true, false≢true, not}
-use borrow.Author.Needs.{needs}
 use lib.Dec.{T}
 use lib.Ieee.{Float, nan, inf, fin, eq, isNan}
 use Rattle.desk.proofs.showing.bits.Statement.{statement}

@@ -1,5 +1,5 @@
 -- `fill_layout`: the bytes from the layout's place on are the side's layout.
-use mathlib.Core.Path.{ap, _∙_}
+use mathlib.Core.Path.{_∙_}
 use native.Mathlib.Omega.{arith}
 use lib.ListN.{length}
 use Rattle.record_arrays.specs.Sides.{sideOf}

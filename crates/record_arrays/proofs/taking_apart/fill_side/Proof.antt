@@ -1,5 +1,5 @@
 -- `fill_side`: the side's rows and layout bytes are the tree and the layout of the record's table.
-use mathlib.Core.Path.{refl, ap}
+use mathlib.Core.Path.{ap}
 use native.Mathlib.Omega.{arith}
 use lib.ListN.{length}
 use Rattle.record_arrays.specs.Sides.{sideOf}

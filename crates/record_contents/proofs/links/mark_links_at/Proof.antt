@@ -1,5 +1,5 @@
 -- `mark_links_at` marks each link of a record in turn: what is marked are the links passed.
-use Prim.Native.Nat.{_+_, _-_, _*_, _≤_}
+use Prim.Native.Nat.{_-_, _≤_}
 use mathlib.Core.Path.{_≡_, refl, sym, ap, _∙_}
 use native.Mathlib.Omega.{arith}
 use Rattle.tanglegram.specs.Lists.{range}

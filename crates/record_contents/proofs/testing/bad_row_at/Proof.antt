@@ -1,8 +1,7 @@
 -- `bad_row_at` gives the lowest bad row of the rows that stand in a record. The loop's invariant: the rows before row i keep the rule and
 -- have their entries marked, and the bad row is the first of those from row i on.
-use Prim.Native.Nat.{ℕ, _-_, _*_}
-use mathlib.Core.Path.{_≡_, _∙_}
-use mathlib.Core.List.{List}
+use Prim.Native.Nat.{_-_, _*_}
+use mathlib.Core.Path.{_∙_}
 use native.Mathlib.Omega.{arith}
 use borrow.Author.Needs.{needs}
 use Rattle.work_trees.specs.Rows.{upper, lower}

@@ -1,6 +1,6 @@
 -- `contents_number` gives the first of the tests of the rows, the links and the layouts that is met.
 use mathlib.Core.Bool.{true, false}
-use mathlib.Core.Path.{_≡_, sym, ap, _∙_}
+use mathlib.Core.Path.{_≡_, ap, _∙_}
 use Rattle.record_fields.specs.Fields.{Parts, partsOf}
 use Rattle.record_fields.specs.Refusals.{breaksRule, isLayout, oneToOne}
 use Rattle.record_fields.proofs.Heading.{passed, failed}

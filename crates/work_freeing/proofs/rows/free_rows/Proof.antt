@@ -9,7 +9,7 @@ use lib.ListN.{length, getD, take}
 use Rattle.tanglegram.specs.Crossings.{inverted}
 use Rattle.tanglegram.specs.Lists.{place}
 use Rattle.tanglegram.specs.Tree.{leaves}
-use Rattle.work_trees.specs.Rows.{upper, lower, size, treeOf, LeafCounts}
+use Rattle.work_trees.specs.Rows.{upper, lower, size, treeOf}
 use Rattle.work_trees.proofs.RowArray.{upper-place, lower-place}
 use Rattle.work_places.specs.Arrays.{at}
 use Rattle.work_freeing.proofs.Counted.{LinksNoted, ChildrenStand, own-counted, noted-leaves, noted-more, parts, parts-told}

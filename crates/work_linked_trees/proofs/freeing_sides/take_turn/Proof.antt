@@ -1,7 +1,6 @@
 -- `take_turn`: the side is freed by what it sees, and the other side's order is at hand.
-use mathlib.Core.Path.{refl, sym, ap, _∙_}
+use mathlib.Core.Path.{sym, _∙_}
 use borrow.Author.Tests.{eq-eqb, ne-eqb}
-use Rattle.tanglegram.proofs.Sides.{second-side}
 use Rattle.work_linked_trees.proofs.SideFreed.{left-freed, right-freed}
 use borrow.Author.Needs.{needs}
 use Rattle.work_linked_trees.proofs.freeing_sides.take_turn.Statement.{statement}

@@ -1,5 +1,5 @@
 -- `count_leaves` meets its contract. The loop's invariant: the rows before row i have their counts.
-use Prim.Native.Nat.{_+_, _-_, _*_, _≤_, _<_}
+use Prim.Native.Nat.{_-_, _*_, _<_}
 use native.Mathlib.Omega.{arith}
 use mathlib.Core.Path.{_≡_, ap, _∙_}
 use lib.ListN.{getD}
