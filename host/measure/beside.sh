@@ -14,11 +14,16 @@ own_compiler
 needs objcopy -- binutils
 peer_cargo build
 if [ ! -e "$clone/target/staticlib/libtangle.a" ]; then
-  echo "proving the calls of $commit"
-  rm -rf "$clone"
-  git clone --quiet --no-checkout . "$clone"
-  git -C "$clone" checkout --quiet "$commit"
-  (cd "$clone" && unset ARCHIVES && . host/archive.sh && archive tangle)
+  echo "proving the calls of $commit, some minutes"
+  [ -e "$clone/.git" ] || git clone --quiet --no-checkout . "$clone"
+  git -C "$clone" checkout --quiet --force "$commit"
+  mkdir -p "$clone/target/measure"
+  log=$clone/target/measure/tangle.log
+  : > "$log"
+  (cd "$clone" && unset ARCHIVES && . host/archive.sh && archive tangle) &
+  proving=$!
+  tail --pid="$proving" --follow --lines=+1 "$log" | sed -nu 's/^rt: \([a-z_]* proved\).*/\1/p'
+  wait "$proving"
 fi
 archive tangle
 

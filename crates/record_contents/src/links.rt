@@ -1,4 +1,5 @@
-// Whether links are one-to-one: each number from 1 to n stands among the n links.
+// Whether links are one-to-one: each number from 1 to n stands among the n links. What was seen of them is marked in
+// eight words, where place q stands for the number q + 1.
 ghost use mathlib.Core.Path.{_≡_};
 ghost use Prim.Native.Nat.{_+_, _*_, _≤_};
 ghost use lib.ListN.{length, take};
