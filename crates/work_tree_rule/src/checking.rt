@@ -1,4 +1,4 @@
-// The tree rule: a row tested by marks at the objects that earlier rows use, and the lowest row of a list that breaks it.
+// The tree rule: a row tested by marks at the objects that earlier rows use; the lowest row of a list that breaks it.
 ghost use mathlib.Core.Path.{_≡_};
 ghost use mathlib.Core.Bool.{cond};
 ghost use Prim.Native.Nat.{_-_, _*_, _≤_};
