@@ -15,7 +15,7 @@ use Rattle.tanglegram.proofs.Bools.{or-neither}
 use Rattle.work_trees.specs.Rows.{upper, lower}
 use Rattle.merge.specs.Entries.{Names, namedBy, entryFor, namesNone}
 use Rattle.merge.specs.Tables.{rowsIn, tableFor, upperEntry, lowerEntry, any, rowNone, someNone}
-use Rattle.merge.proofs.Entries.{names-some, entry-zero, entry-back, named-back}
+use Rattle.merge.proofs.Entries.{names-some, none-later, entry-zero, entry-back, named-back}
 
 -- ---- places
 
@@ -86,6 +86,13 @@ module _ (n : ℕ) (table : List ℤ) where
     row-named i p q =
         or-neither (namesNone n i (upperEntry table i)) (namesNone n i (lowerEntry table i))
         (any-none (rowNone n table) 1 (pred n) named i p (omega arith))
+
+    -- and may stand in any row from n on, too
+    pub place-later : (m : ℕ) → n ≤ m → (k : ℕ) → k < 2 * (n - 1) → namesNone n m (getD table k (pos 0)) ≡ false
+    place-later m l =
+        by-rows n (λ k. namesNone n m (getD table k (pos 0)) ≡ false)
+        (λ i p q. let r = row-named i p q in
+        (none-later n i m (upperEntry table i) (omega arith) (r .0), none-later n i m (lowerEntry table i) (omega arith) (r .1)))
 
     pub place-named : (k : ℕ) → k < 2 * (n - 1) → Names n (getD table k (pos 0)) (namedBy n (getD table k (pos 0)))
     place-named =
