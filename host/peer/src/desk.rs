@@ -58,24 +58,24 @@ fn letter(word: &[u8]) -> Option<u8> {
     number(word, u8::MAX as u64).map(|value| value as u8)
 }
 
-/// Numbers separated by commas, or `-`.
-fn list(word: &[u8]) -> Option<Vec<u16>> {
+/// Entries separated by commas, or `-`.
+fn entries<T>(word: &[u8], entry: impl Fn(&[u8]) -> Option<T>) -> Option<Vec<T>> {
     if word == b"-" {
         return Some(Vec::new());
     }
-    word.split(|&byte| byte == b',').map(short).collect()
+    word.split(|&byte| byte == b',').map(entry).collect()
 }
 
-/// `side:row` pairs separated by commas, or `-`.
+fn list(word: &[u8]) -> Option<Vec<u16>> {
+    entries(word, short)
+}
+
+/// `side:row` pairs.
 fn hands(word: &[u8]) -> Option<Vec<(u16, u16)>> {
-    if word == b"-" {
-        return Some(Vec::new());
-    }
-    let entry = |entry: &[u8]| {
+    entries(word, |entry| {
         let colon = entry.iter().position(|&byte| byte == b':')?;
         Some((short(&entry[..colon])?, short(&entry[colon + 1..])?))
-    };
-    word.split(|&byte| byte == b',').map(entry).collect()
+    })
 }
 
 /// Two hexadecimal digits for each byte, or `-`.

@@ -25,6 +25,7 @@ mod quick;
 mod random;
 mod record;
 mod refusals;
+mod room;
 mod shapes;
 mod sheet;
 mod speed;

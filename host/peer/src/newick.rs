@@ -5,6 +5,7 @@
 
 use crate::record::{self, Row, Side, MOST_LEAVES};
 use crate::refusals::{self, Refusal};
+use crate::room;
 
 /// The most groups that may be open at once.
 const MOST_OPEN: usize = 511;
@@ -158,10 +159,7 @@ fn rows(text: &[u8]) -> Result<Vec<Row>, Refusal> {
 /// 19, 14, or n.
 pub fn read(text: &[u8], out: &mut [u16]) -> Result<u16, Refusal> {
     let rows = rows(text)?.concat();
-    if out.len() < rows.len() {
-        return Err(refusals::BUFFER);
-    }
-    out[..rows.len()].copy_from_slice(&rows);
+    room::put(&rows, out)?;
     Ok(rows.len() as u16 / 2 + 1)
 }
 
@@ -187,10 +185,7 @@ pub fn write(bytes: &[u8], side: u16, out: &mut [u8]) -> Result<usize, Refusal> 
     let side = Side::of(side)?;
     let record = record::read(bytes)?;
     let text = object_text(record.rows(side), record.layout(side), 2 * record.n - 1) + ";";
-    if out.len() < text.len() {
-        return Err(refusals::BUFFER);
-    }
-    out[..text.len()].copy_from_slice(text.as_bytes());
+    room::put(text.as_bytes(), out)?;
     Ok(text.len())
 }
 
