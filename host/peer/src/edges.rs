@@ -9,6 +9,7 @@ use crate::faults;
 use crate::lines;
 use crate::made::{any_record, case_2, example, of_shape, Made};
 use crate::malformed;
+use crate::merge_edges;
 use crate::newick_edges;
 use crate::random::Random;
 use crate::spelling;
@@ -36,6 +37,7 @@ pub fn all() -> Vec<String> {
     all.extend(packing_several_faults());
     all.extend(unpacking());
     all.extend(newick_edges::all());
+    all.extend(merge_edges::all());
     all.extend(sizes());
     all.extend(bad_records());
     all.extend(bad_records_and_arguments());
@@ -109,6 +111,7 @@ fn calls_on(made: &Made, record: &[u8]) -> Vec<String> {
     calls.push(lines::unpack(record, &numbers, &[vec![8; n - 1], vec![8; n - 1]]));
     let length = spelling::tree(&made.left, &made.left_layout).concat().len();
     calls.push(lines::newick_write(record, 2, &vec![8; length]));
+    calls.push(lines::merge_write(record, 1, &vec![8; 2 * (n - 1)]));
     calls
 }
 
