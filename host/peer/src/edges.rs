@@ -253,13 +253,16 @@ fn long_hand_lists() -> Vec<String> {
     let list = |length: usize| -> Vec<(u16, u16)> {
         (0..length).map(|at| (1 + at as u16 % 2, 1 + at as u16 % 3)).collect()
     };
-    for length in [1024, 1025, 1023, 1026, 2048] {
+    let lengths = [1024, 1025, 1023, 1026, 2048];
+    for length in lengths {
         calls.push(lines::hands(&made.bytes(), &list(length)));
-        calls.push(lines::hands(&with_hold(made.clone(), b'B').bytes(), &list(length)));
-        calls.push(lines::hands(&made.bytes()[..7], &list(length)));
         let mut last_bad = list(length);
         last_bad[length - 1] = (2, 4);
         calls.push(lines::hands(&made.bytes(), &last_bad));
+    }
+    for length in lengths {
+        calls.push(lines::hands(&made.bytes()[..7], &list(length)));
+        calls.push(lines::hands(&with_hold(made.clone(), b'B').bytes(), &list(length)));
         calls.push(lines::hands(&one_leaf().bytes(), &list(length)));
     }
     let whole: Vec<(u16, u16)> = (0..1024).map(|at| (1 + at / 512, 1 + at % 511)).collect();
