@@ -353,11 +353,11 @@ mod tests {
     fn a_seed_gives_the_same_lines() {
         let mut one = Vec::new();
         let mut two = Vec::new();
-        write(5, 8000, &mut one).unwrap();
-        write(5, 8000, &mut two).unwrap();
+        write(5, 12_000, &mut one).unwrap();
+        write(5, 12_000, &mut two).unwrap();
         assert!(one == two);
         let lines: Vec<&[u8]> = one.split(|&byte| byte == b'\n').collect();
-        assert_eq!(lines.len(), 8001);
+        assert_eq!(lines.len(), 12_001);
         assert!(lines.iter().all(|line| line.len() <= 100_000));
     }
 
