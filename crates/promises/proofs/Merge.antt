@@ -81,7 +81,7 @@ module _ (n : ℕ) (table : List ℤ) (out : List ℕ) where
   size-of : Pairs n table → noSize n ≡ false
   size-of p = unsized n (p .some) (p .most)
 
-  told-number : {k : ℕ} → Tells n table out k → k ≡ mergeReadRefusal n table out
+  pub told-number : {k : ℕ} → Tells n table out k → k ≡ mergeReadRefusal n table out
   told-number (tells-5 h) = reading-5 n table out (no-size h)
   told-number (tells-6 s h) = reading-6 n table out (unsized n (s .0) (s .1)) h
   told-number (tells-20 p e) = reading-20 n table out (size-of p) (p .long) (found-none e)
@@ -307,9 +307,11 @@ module _ (n : ℕ) (table : List ℤ) (out : List ℕ) (read : Refusal) (out′ 
       let its-rows : rowsOn (parts s) (sideOf side) ≡ rowsIn n table =
       ap (λ Q. rowsOn Q (sideOf side)) (parts-packed P buffer e) ∙ same-rows ∙ rows-are n table out read out′ o accepted in
       let g = good n table out read out′ o accepted in
-      let written = ap (λ m. take (2 * (m - 1)) after) (sym its-size) ∙ table-is s side places answer after v number in
-      (number, written ∙ ap (λ m. tableFor m (rowsOn (parts s) (sideOf side))) its-size ∙ ap (tableFor n) its-rows
-      ∙ table-back n table (g .its-pairs .long) (g .named))
+      let written = ap (λ m. take (2 * (m - 1)) after) (sym its-size) ∙ table-is s side places answer after v number in (
+        number,
+        written ∙ ap (λ m. tableFor m (rowsOn (parts s) (sideOf side))) its-size ∙ ap (tableFor n) its-rows
+            ∙ table-back n table (g .its-pairs .long) (g .named),
+      )
 
 -- ---- packing rows that were read
 

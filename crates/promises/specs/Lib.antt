@@ -12,6 +12,8 @@ pub mod Entanglement
 pub mod HandsTwice
 pub mod Newick
 pub mod Merge
+pub mod Cases
+pub mod MergeExamples
 pub mod Examples
 pub mod Tried
 pub mod Promises
