@@ -51,8 +51,8 @@ named-by-requires : tie.Need-named-by-requires Inv-loop μ-loop
 named-by-requires c κs =
     let l = c .before .before in
     let s = l .before in
-    let here : 2 * (l .loop .i - 1) < 2 * (s .args .n - 1) = let from = l .loop .inv .from in omega (arith, c .before .loop-test .taken) in
-    requires s (read-at (s .args .table .now) (c .named-by-arg .given) refl) here
+    let from = l .loop .inv .from in
+    requires s (read-at (s .args .table .now) (c .named-by-arg .given) refl) (omega (arith, c .before .loop-test .taken))
 
 add-named-by : tie.Need-add-named-by Inv-loop μ-loop
 add-named-by c = search needs
@@ -67,9 +67,8 @@ named-by-requires-2 : tie.Need-named-by-requires-2 Inv-loop μ-loop
 named-by-requires-2 c κs =
     let l = c .before .before .before .before in
     let s = l .before in
-    let here : 2 * (l .loop .i - 1) + 1 < 2 * (s .args .n - 1) =
-    let from = l .loop .inv .from in omega (arith, c .before .before .before .loop-test .taken) in
-    requires s (read-at (s .args .table .now) (c .named-by-arg2 .given) refl) here
+    let from = l .loop .inv .from in
+    requires s (read-at (s .args .table .now) (c .named-by-arg2 .given) refl) (omega (arith, c .before .before .before .loop-test .taken))
 
 cast-row-breaks : tie.Need-cast-row-breaks Inv-loop μ-loop
 cast-row-breaks c = search needs
