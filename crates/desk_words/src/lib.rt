@@ -6,4 +6,5 @@ pub mod lists;
 pub mod numbers;
 pub mod room;
 pub mod spelling;
+pub mod tables;
 pub mod words;
