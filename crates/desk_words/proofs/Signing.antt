@@ -1,17 +1,17 @@
 -- Laws of the signed number that a word says, by the dash in front, and of the bits that hold it: it fits 32, and what is
 -- none is told from it in 64.
-use Prim.Native.Nat.{ℕ, zero, suc, _+_, _-_, _≤_, _<_}
+use Prim.Native.Nat.{ℕ, zero, suc, _-_, _≤_, _<_}
 use native.Mathlib.Omega.{arith}
 use mathlib.Core.Path.{_≡_, refl, sym, ap, _∙_}
 use mathlib.Core.Bool.{Bool, true, false, cond}
 use mathlib.Core.List.{List, [], _∷_}
 use mathlib.Core.Option.{Option, none, some, Option·getD, Option·map}
 use borrow.Author.Tests.{leb-true, eq-eqb, ne-eqb}
-use lib.Dec.{eqb, lit<}
-use lib.IntN.{ℤ, pos, negsuc, negℤ, _-ℤ_, +ℤ-idl}
+use lib.Dec.{eqb}
+use lib.IntN.{ℤ, pos, negsuc, _-ℤ_, +ℤ-idl}
 use lib.ListN.{length, getD, take, drop}
 use lib.Seq.{take-all}
-use lib.Signed.{leZ}
+use lib.Signed.{mag, leZ}
 use mir.Syntax.{w32, w64}
 use mir.Val.{SFits, toZ, ofZ}
 use mir.ValLaws.{toZ-pos, toZ-ofZ}
@@ -20,15 +20,19 @@ use Rattle.desk_words.specs.Tables.{minus, signedIn}
 use Rattle.desk_words.proofs.Filling.{told}
 use Rattle.desk_words.proofs.Reading.{Limited, limited, none-above}
 
--- ---- what is said fits 32 bits
-abbrev pub Signed32 : Option ℤ → Type 0
+-- ---- in 32 bits
+-- What is said, if anything, fits 32 bits.
+abbrev Signed32 : Option ℤ → Type 0
 Signed32 none = Unit {0}
 Signed32 (some x) = SFits w32 x
 
+minus-below : (n k : ℕ) → n ≤ k → 0 < k → mag (minus n) < k
+minus-below zero k h p = p
+minus-below (suc n) k h p = h
+
 minus-fits : (o : Option ℕ) → Limited 2147483648 o → Signed32 (Option·map minus o)
 minus-fits none h = tt
-minus-fits (some zero) h = record { sfits = lit< tt }
-minus-fits (some (suc n)) h = record { sfits = let l : suc n ≤ 2147483648 = h in omega arith }
+minus-fits (some n) h = record { sfits = minus-below n 2147483648 h (omega arith) }
 
 pos-fits : (o : Option ℕ) → Limited 2147483647 o → Signed32 (Option·map pos o)
 pos-fits none h = tt
@@ -38,7 +42,7 @@ either-fits : (b : Bool) (o p : Option ℤ) → Signed32 o → Signed32 p → Si
 either-fits true o p h l = h
 either-fits false o p h l = l
 
-pub signed-fits : (word : List ℕ) → Signed32 (signedIn word)
+signed-fits : (word : List ℕ) → Signed32 (signedIn word)
 unfolding signedIn
 signed-fits [] = tt
 signed-fits (x ∷ s) =
@@ -69,7 +73,9 @@ by-dash (x ∷ s) h e = rw (eq-eqb x 45 e, take-all (suc (length s) - 1) s (omeg
 module _ (word : List ℕ) (h : 0 < length word) (d : getD word 0 0 ≡ 45) (r : ℕ)
     (e : r ≡ Option·getD (numberIn 2147483648 (digitsOf word)) 2147483649) where
   pub dash-bad : 2147483648 < r → signedIn word ≡ none
-  dash-bad m = by-dash word h d ∙ rw (none-above (numberIn 2147483648 (digitsOf word)) 2147483648 r (limited 2147483648 (digitsOf word)) e m)
+  dash-bad m =
+      let s = digitsOf word in
+      by-dash word h d ∙ rw (none-above (numberIn 2147483648 s) 2147483648 r (limited 2147483648 s) e m)
 
   pub dash-told : r ≤ 2147483648 → signedIn word ≡ some (minus r)
   dash-told m = by-dash word h d ∙ rw (told (numberIn 2147483648 (digitsOf word)) 2147483649 r e (omega arith))
@@ -84,8 +90,7 @@ bare-told word r d e = rw (no-dash word d, e) (pos-told (numberIn 2147483647 wor
 
 -- ---- in 64 bits
 pub minus-fits-64 : (n : ℕ) → n ≤ 2147483648 → SFits w64 (minus n)
-minus-fits-64 zero h = record { sfits = lit< tt }
-minus-fits-64 (suc n) h = record { sfits = omega arith }
+minus-fits-64 n h = record { sfits = minus-below n 9223372036854775808 (omega arith) (omega arith) }
 
 pub opposite : (n : ℕ) → n ≤ 2147483648 → pos 0 -ℤ toZ w64 n ≡ minus n
 opposite n h = ap (λ (z : ℤ). pos 0 -ℤ z) (toZ-pos w64 n (omega arith)) ∙ +ℤ-idl (minus n)

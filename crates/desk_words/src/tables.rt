@@ -1,5 +1,5 @@
-// The signed 32-bit numbers that a word says with commas between, as the entries of a merge table are typed. A number is
-// read with 64 bits, in which the least of 32 bits has its opposite.
+// The signed 32-bit numbers that a word says with commas between, as the entries of a merge table are typed. A number
+// is read in 64 bits, in which the least of 32 bits has its opposite.
 use crate::numbers::number;
 use crate::room::NOWHERE;
 use crate::words::is_dash;
@@ -30,8 +30,8 @@ fn signed(word: &[u8]) -> i64
     0 - (x as i64)
 }
 
-// Puts the signed numbers that a word says into the first places of out, and answers how many; `NOWHERE` where it says no
-// such list.
+// Puts the signed numbers that a word says into the first places of out, and answers how many; `NOWHERE` where it says
+// no such list.
 pub fn table(word: &[u8], out: &mut [i32]) -> usize
     ensures { λ r. ⌜ Puts (tableIn (now (word .entry))) (now (out .entry)) r (now (out .exit)) ⌝ }
 {

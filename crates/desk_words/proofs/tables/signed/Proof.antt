@@ -19,7 +19,9 @@ number-requires : tie.Need-number-requires
 number-requires c κs = search needs
 
 cast-result : tie.Need-cast-result
-cast-result c = omega (arith, one-more 2147483647 (c .before .before .before .before .before .args .word .now) (c .number .result) (c .number .ensures))
+cast-result c =
+    let word = c .before .before .before .before .before .args .word .now in
+    omega (arith, one-more 2147483647 word (c .number .result) (c .number .ensures))
 
 returns-2 : tie.Need-returns-2
 returns-2 c =
