@@ -13,10 +13,22 @@ use Rattle.desk_words.specs.Lists.{entriesIn}
 abbrev pub minus : ℕ → ℤ
 minus n = negℤ (pos n)
 
--- The signed number that a word says: minus one of at most 2,147,483,648 behind a dash, else one of at most 2,147,483,647.
+-- The largest number of 32 bits.
+abbrev pub largest : ℕ
+largest = 2147483647
+
+-- How far the least number of 32 bits is below zero.
+abbrev pub lowest : ℕ
+lowest = 2147483648
+
+-- What is answered for a word that says no signed number: one more than the largest.
+abbrev pub beyond : ℤ
+beyond = pos 2147483648
+
+-- The signed number that a word says: behind a dash one of at most `lowest`, below zero, else one of at most `largest`.
 unfoldable pub signedIn : List ℕ → Option ℤ
 signedIn [] = none
-signedIn (x ∷ s) = cond (eqb x 45) (Option·map minus (numberIn 2147483648 s)) (Option·map pos (numberIn 2147483647 (x ∷ s)))
+signedIn (x ∷ s) = cond (eqb x 45) (Option·map minus (numberIn lowest s)) (Option·map pos (numberIn largest (x ∷ s)))
 
 -- The list of signed numbers that a word says.
 unfoldable pub tableIn : List ℕ → Option (List ℤ)

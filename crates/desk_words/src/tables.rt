@@ -6,8 +6,7 @@ use crate::words::is_dash;
 use crate::words::upto;
 ghost use mathlib.Core.Path.{_≡_};
 ghost use mathlib.Core.Option.{Option·getD};
-ghost use lib.IntN.{pos};
-ghost use Rattle.desk_words.specs.Tables.{signedIn, tableIn};
+ghost use Rattle.desk_words.specs.Tables.{beyond, signedIn, tableIn};
 ghost use Rattle.desk_words.specs.Puts.{Puts};
 
 // One more than the largest number of 32 bits.
@@ -15,7 +14,7 @@ const BEYOND: i64 = 2147483648;
 
 // The signed number that a word says; `BEYOND` where it says none.
 fn signed(word: &[u8]) -> i64
-    ensures { λ r. ⌜ r ≡ Option·getD (signedIn (now (word .entry))) (pos 2147483648) ⌝ }
+    ensures { λ r. ⌜ r ≡ Option·getD (signedIn (now (word .entry))) beyond ⌝ }
 {
     if word.len() == 0 {
         return BEYOND;

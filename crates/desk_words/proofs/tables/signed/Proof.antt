@@ -5,7 +5,7 @@ use mathlib.Core.Path.{_∙_}
 use mir.Syntax.{w64}
 use mir.ValLaws.{toZ-pos, toZ-ofZ}
 use Rattle.desk_words.proofs.Reading.{one-more}
-use Rattle.desk_words.proofs.Signing.{no-word, bare-told, dash-bad, dash-told, minus-fits-64, opposite}
+use Rattle.desk_words.proofs.Signing.{no-word, bare-told, dash-bad, dash-told, opposite, opposite-fits}
 use Rattle.desk_words.proofs.tables.signed.Statement.{statement}
 use Rattle.desk_words.proofs.tables.signed.Tie as tie
 
@@ -50,9 +50,7 @@ cast-result-2 : tie.Need-cast-result-2
 cast-result-2 c = search needs
 
 sub-result : tie.Need-sub-result
-sub-result c =
-    let x = c .before .number2 .result in
-    rw (opposite x (omega arith)) (minus-fits-64 x (omega arith))
+sub-result c = opposite-fits (c .before .number2 .result) (omega arith)
 
 returns-4 : tie.Need-returns-4
 returns-4 c =
