@@ -1,8 +1,8 @@
-/* Peak stack of every call (tangle.h) on records and texts of 512 leaves, by a painted stack. A line for each call and
- * record: call, left tree, right tree, layout bytes (0, 1, or 2 for mixed), bytes. For reading a text: call, tree, what
- * the text is, a dash, bytes. The bytes include the few that the harness takes to hand the arguments over. Ends with 1
- * if a call refuses a good record or text or accepts one that is bad, if an order, a text or the rows of one are not
- * those expected, or if two calls that must agree do not. */
+/* Peak stack of every call (tangle.h) on records, texts and merge tables of 512 leaves, by a painted stack. A line for
+ * each call and record: call, left tree, right tree, layout bytes (0, 1, or 2 for mixed), bytes. For reading a text or
+ * a table: call, tree, what the text or the table is, a dash, bytes. The bytes include the few that the harness takes
+ * to hand the arguments over. Ends with 1 if a call refuses a good record, text or table or accepts one that is bad, if
+ * an order, a text, a table or the rows of one are not those expected, or if two calls that must agree do not. */
 #include <stdio.h>
 
 #include "../viewer/tangle.h"
@@ -19,6 +19,9 @@ static uint8_t written[TEXT];
 static char text[LONG_TEXT + 1];
 static size_t text_length, text_places;
 static uint16_t text_rows[2 * ROWS];
+static int32_t table[2 * ROWS], written_table[2 * ROWS];
+static size_t table_places;
+static uint16_t table_rows[2 * ROWS];
 
 /* What the jobs found: the last refusal's number, and the calls' answers. */
 static struct {
@@ -114,6 +117,18 @@ static void newick_read(void) {
     found.refusal = found.read.refusal;
 }
 
+static void merge_write_left(void) {
+    found.refusal = tangle_merge_write(s, BYTES, TANGLE_LEFT, written_table, 2 * ROWS).refusal;
+}
+
+static void merge_write_right(void) {
+    found.refusal = tangle_merge_write(s, BYTES, TANGLE_RIGHT, written_table, 2 * ROWS).refusal;
+}
+
+static void merge_read(void) {
+    found.refusal = tangle_merge_read(N, table, 2 * ROWS, table_rows, table_places).refusal;
+}
+
 /* Every call on a record; those with a side once for each, with two orders of that side at hand. */
 static const struct {
     const char *name;
@@ -139,6 +154,8 @@ static const struct {
     {"pack", pack, 0},
     {"newick_write", newick_write_left, TANGLE_LEFT},
     {"newick_write", newick_write_right, TANGLE_RIGHT},
+    {"merge_write", merge_write_left, TANGLE_LEFT},
+    {"merge_write", merge_write_right, TANGLE_RIGHT},
 };
 
 static void put(size_t at, uint16_t x) {
@@ -196,6 +213,13 @@ static int in_words(uint32_t side) {
     return found.wrote.length == TEXT && memcmp(written, expected, TEXT) == 0;
 }
 
+/* Whether the table found is the side's, whatever is turned. */
+static int in_signs(uint32_t side) {
+    int32_t expected[2 * ROWS];
+    put_signs(expected, side == TANGLE_LEFT ? left : right, N);
+    return memcmp(written_table, expected, sizeof expected) == 0;
+}
+
 static int agree(void) {
     uint32_t crossings = found.count.count;
     return found.pairs.count == crossings && found.freed.before == crossings && found.freed.after <= crossings &&
@@ -227,6 +251,7 @@ static int measure(size_t on_left, size_t on_right, uint8_t layout) {
         if (strcmp(calls[i].name, "order") == 0 && direction != 0 && layout != 2)
             answered &= in_order((direction < 0) != (layout == 1));
         if (strcmp(calls[i].name, "newick_write") == 0) answered &= in_words(calls[i].side);
+        if (strcmp(calls[i].name, "merge_write") == 0) answered &= in_signs(calls[i].side);
         if (!answered) fprintf(stderr, "%s, %s: refused, or another answer\n", calls[i].name, name);
         good &= answered;
     }
@@ -302,11 +327,49 @@ static int measure_reading(size_t shape) {
     return good;
 }
 
+static void no_leaf(void) { table[0] = -N - 1; }
+static void no_row(void) { table[2 * ROWS - 1] = ROWS; } /* the last row's own number */
+static void twice(void) { table[2 * ROWS - 1] = table[0]; }
+static void no_room(void) { table_places--; }
+
+/* What a table is: what is done to it or to its room, and its refusal. */
+static const struct {
+    const char *name;
+    job_t *change;
+    uint32_t refusal;
+} table_kinds[] = {
+    {"read", no_job, 0},
+    {"no-leaf", no_leaf, TANGLE_ENTRY},
+    {"no-row", no_row, TANGLE_ENTRY},
+    {"twice", twice, TANGLE_TWICE},
+    {"no-room", no_room, TANGLE_ROOM},
+};
+
+/* Reading merge tables of one shape: a good one, and bad ones. */
+static int measure_tables(size_t shape) {
+    uint16_t rows[2 * ROWS];
+    int good = 1;
+    for (size_t i = 0; i < sizeof table_kinds / sizeof *table_kinds; i++) {
+        shapes[shape].rows(rows, N);
+        put_signs(table, rows, N);
+        table_places = 2 * ROWS;
+        table_kinds[i].change();
+        size_t bytes = bytes_of(merge_read);
+        printf("merge_read %s %s - %zu\n", shapes[shape].name, table_kinds[i].name, bytes);
+        int answered = found.refusal == table_kinds[i].refusal;
+        if (found.refusal == 0) answered &= memcmp(table_rows, rows, sizeof rows) == 0;
+        if (!answered) fprintf(stderr, "merge_read, %s %s: another answer\n", shapes[shape].name, table_kinds[i].name);
+        good &= answered;
+    }
+    return good;
+}
+
 int main(void) {
     int good = 1;
     for (size_t i = 0; i < 16; i++)
         for (uint8_t layout = 0; layout <= 2; layout++) good &= measure(i / 4, i % 4, layout);
     good &= measure_bad_row(TANGLE_LEFT) & measure_bad_row(TANGLE_RIGHT);
     for (size_t i = 0; i < 3; i++) good &= measure_reading(i); /* all but the random one, whose depth is no limit */
+    for (size_t i = 0; i < 4; i++) good &= measure_tables(i);
     return good ? 0 : 1;
 }

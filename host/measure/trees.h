@@ -1,5 +1,5 @@
 /* Rows of trees over n leaves: row i, from 1 on, is rows[2i-2] over rows[2i-1] and makes object n + i. And a tree as a
- * Newick text. */
+ * Newick text, and as a merge table. */
 #ifndef TREES_H
 #define TREES_H
 
@@ -73,6 +73,11 @@ static char *spell(char *end, const uint16_t *rows, uint16_t n, uint16_t object,
     *end++ = ':';
     memset(end, '7', digits);
     return end + digits;
+}
+
+/* A tree as a merge table: minus a leaf, plus a row. */
+static inline void put_signs(int32_t *table, const uint16_t *rows, uint16_t n) {
+    for (size_t i = 0; i < 2 * ((size_t)n - 1); i++) table[i] = rows[i] <= n ? -(int32_t)rows[i] : rows[i] - n;
 }
 
 #endif

@@ -1,4 +1,4 @@
-/* The comparison table's calls for C: all fifteen (crates/tangle, target/staticlib/libtangle.a, which `rt staticlib
+/* The comparison table's calls for C: all seventeen (crates/tangle, target/staticlib/libtangle.a, which `rt staticlib
  * tangle` writes).
  *
  * Memory is lent for the length of a call, as a pointer and how many bytes, places or entries are there; any bytes and
@@ -10,9 +10,11 @@
  * failed, in the order given with the call. The second is the row: beside 7 and 8 the lowest row, 1 to n-1, of the left
  * or the right tree that breaks the tree rule, and 0 beside every other number. A refused call answers zero for every
  * number after these two and changes no byte. One that is not refused changes what is said with the call, and no other
- * byte. docs/CALLS.md explains the words used here, docs/RECORD.md the record's bytes, and docs/NEWICK.md the texts.
+ * byte. docs/CALLS.md explains the words used here, docs/RECORD.md the record's bytes, docs/NEWICK.md the texts, and
+ * docs/MERGE.md the merge tables.
  *
- * Sides, letters, n and allowances are 32 bits wide, and each is tested as it is: side 257 and side 65,537 are refused.
+ * Sides, letters, n and allowances are 32 bits wide, and each is tested as it is: side 257 and side 65,537 are refused,
+ * and so is n = 65,540.
  *
  * The archive is x86-64 code.
  */
@@ -34,7 +36,8 @@ enum tangle_number {
     TANGLE_VERSION = 3,    /* the version isn't 1 */
     TANGLE_HOLD = 4,       /* the hold isn't one of the four letters N, L, R, B */
     TANGLE_SIZE = 5,       /* n is 0 or above 512 */
-    TANGLE_LENGTH = 6,     /* the length isn't 12n-2; in packing, a list has the wrong length */
+    TANGLE_LENGTH = 6,     /* the length isn't 12n-2; in packing, a list has the wrong length; a merge table must have
+                              n-1 pairs, and hasn't */
     TANGLE_LEFT_ROW = 7,   /* a left row breaks the tree rule; the lowest that does is told beside it */
     TANGLE_RIGHT_ROW = 8,  /* a right row breaks the tree rule; likewise */
     TANGLE_LINKS = 9,      /* the links aren't one-to-one on 1 to n */
@@ -48,7 +51,9 @@ enum tangle_number {
     TANGLE_ORDER = 16,     /* a proposed order has fewer than n entries, or its first n aren't a compatible order */
     TANGLE_HANDS = 17,     /* the hand list is longer than 1,024 */
     TANGLE_GRAMMAR = 18,   /* a text breaks the grammar of docs/NEWICK.md */
-    TANGLE_LEAVES = 19     /* a text's leaves aren't 1 to n once each, or n is above 512 */
+    TANGLE_LEAVES = 19,    /* a text's leaves aren't 1 to n once each, or n is above 512 */
+    TANGLE_ENTRY = 20,     /* an entry of a merge table is zero, or names no leaf, or no earlier row */
+    TANGLE_TWICE = 21      /* an entry of a merge table is used twice */
 };
 
 enum tangle_side { TANGLE_LEFT = 1, TANGLE_RIGHT = 2 };
@@ -60,7 +65,8 @@ enum tangle_which { TANGLE_FIRST = 1, TANGLE_SECOND = 2 };
 enum tangle_letter { TANGLE_HOLD_NONE = 'N', TANGLE_HOLD_LEFT = 'L', TANGLE_HOLD_RIGHT = 'R', TANGLE_HOLD_BOTH = 'B' };
 
 /* The most leaves; the longest record, in bytes; the largest allowance of a run; the most entries of a hand list; the
- * most places of the rows read; the most bytes of a written text. The last two are what a caller lends. */
+ * most places of rows that are read, and of a written merge table; the most bytes of a written text. The last two are
+ * what a caller lends. */
 enum tangle_limit {
     TANGLE_MOST_LEAVES = 512,
     TANGLE_MOST_BYTES = 6142,
@@ -237,6 +243,28 @@ struct tangle_newick_read tangle_newick_read(const uint8_t *text, size_t length,
  * Refused: 13, then 1 to 10, then 14 if there are fewer places than the text has bytes. */
 struct tangle_newick_write tangle_newick_write(const uint8_t *record, size_t length, uint32_t side, uint8_t *text,
                                                size_t places);
+
+/* ---- merge tables, in and out
+ *
+ * A table over n leaves is n-1 pairs of numbers with signs, pair by pair: row 1's upper entry, row 1's lower, row 2's
+ * upper, and so on. Minus a is leaf a; plus j is row j, which must be an earlier one, and stands for object n+j. These
+ * are the signs of R's hclust objects. But R keeps a matrix column by column, so `t(hc$merge)` is what is exported;
+ * docs/MERGE.md says how. */
+
+/* Reads a tree from a table of that many entries: writes its rows, 2(n-1) numbers, upper then lower, row after row, to
+ * the first of the buffer's places, and nothing beyond them. The row answered is always 0. TANGLE_MOST_ROWS places are
+ * enough for any table.
+ * Refused: 5, 6 if there are not 2(n-1) entries, 20 over the whole table, then 21, then 14 if there are fewer than
+ * 2(n-1) places. */
+struct tangle_refusal tangle_merge_read(uint32_t n, const int32_t *table, size_t entries, uint16_t *rows,
+                                        size_t places);
+
+/* Writes the rows of a side, as they are given, as a table: 2(n-1) entries, to the first of the buffer's places, and
+ * nothing beyond them. Reads the record; layout bytes and a hold are no matter. TANGLE_MOST_ROWS places are enough for
+ * any record.
+ * Refused: 13, then 1 to 10, then 14 if there are fewer than 2(n-1) places. */
+struct tangle_refusal tangle_merge_write(const uint8_t *record, size_t length, uint32_t side, int32_t *table,
+                                         size_t places);
 
 #ifdef __cplusplus
 }

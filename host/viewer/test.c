@@ -1,7 +1,7 @@
-/* Checks the fifteen calls for C against docs/CALLS.md and docs/NEWICK.md: their examples, every refusal, in the order
- * of tests, the row beside 7 and 8 and none beside another number, numbers wider than 8 and 16 bits, that a refused
- * call changes no byte, and that none writes beyond what it was lent. Numbers are literals, the customer's or worked
- * out by hand. Prints each check that failed; ends with 0 only if none did.
+/* Checks the seventeen calls for C against docs/CALLS.md, docs/NEWICK.md and docs/MERGE.md: their examples, every
+ * refusal, in the order of tests, the row beside 7 and 8 and none beside another number, numbers wider than 8 and 16
+ * bits, that a refused call changes no byte, and that none writes beyond what it was lent. Numbers are literals, the
+ * customer's or worked out by hand. Prints each check that failed; ends with 0 only if none did.
  */
 #include <stdio.h>
 #include <string.h>
@@ -25,6 +25,7 @@ _Static_assert(TANGLE_RIGHT_ROW == 8 && TANGLE_LINKS == 9 && TANGLE_LAYOUT == 10
 _Static_assert(TANGLE_HELD == 11 && TANGLE_ALLOWANCE == 12 && TANGLE_SIDE == 13, "docs/CALLS.md");
 _Static_assert(TANGLE_ROOM == 14 && TANGLE_ROW == 15 && TANGLE_ORDER == 16 && TANGLE_HANDS == 17, "docs/CALLS.md");
 _Static_assert(TANGLE_GRAMMAR == 18 && TANGLE_LEAVES == 19, "docs/CALLS.md");
+_Static_assert(TANGLE_ENTRY == 20 && TANGLE_TWICE == 21, "docs/CALLS.md");
 _Static_assert(TANGLE_LEFT == 1 && TANGLE_RIGHT == 2 && TANGLE_FIRST == 1 && TANGLE_SECOND == 2, "docs/CALLS.md");
 _Static_assert(TANGLE_HOLD_NONE == 78 && TANGLE_HOLD_LEFT == 76, "ASCII");
 _Static_assert(TANGLE_HOLD_RIGHT == 82 && TANGLE_HOLD_BOTH == 66, "ASCII");
@@ -425,6 +426,63 @@ static void write_text(int line, uint32_t side, size_t lent, uint32_t refusal, c
     same_bytes(line, &kept);
 }
 
+/* ---- merge tables */
+
+/* A buffer of 32-bit numbers, with fences, like those above. */
+struct table {
+    int32_t room[FENCE + MOST_PLACES + FENCE];
+};
+
+static int32_t *entries(struct table *t)
+{
+    return t->room + FENCE;
+}
+
+/* Reads a table of so many entries, into so many places: the refusal, and the rows, none where it is refused. */
+static void read_table(int line, uint32_t n, const int32_t *table, size_t length, size_t lent, uint32_t refusal,
+                       const uint16_t *rows)
+{
+    static struct buffer out;
+    static int32_t before[MOST_PLACES + 2];
+    struct tangle_refusal a;
+
+    clear(&out);
+    memcpy(before, table, length * sizeof *table);
+    a = tangle_merge_read(n, table, length, places(&out), lent);
+    told(line, a.refusal, a.row, refusal);
+    contains(line, &out, rows, refusal == 0 ? length * sizeof *rows : 0);
+    check(line, "an entry of the table changed", memcmp(before, table, length * sizeof *table) != 0, 0);
+}
+
+/* A table that is refused, whatever room there is. */
+static void table_refused(int line, uint32_t n, const int32_t *table, size_t length, uint32_t refusal)
+{
+    read_table(line, n, table, length, MOST_PLACES, refusal, NULL);
+    read_table(line, n, table, length, 0, refusal, NULL);
+}
+
+/* Writes a side as a table, into so many places; of no entries where it is refused. */
+static void write_table(int line, uint32_t side, size_t lent, uint32_t refusal, const int32_t *table, size_t length)
+{
+    static struct table out, expected;
+    struct tangle_refusal a;
+
+    kept = r;
+    memset(&out, 0xa5, sizeof out);
+    memset(&expected, 0xa5, sizeof expected);
+    if (length != 0)
+        memcpy(entries(&expected), table, length * sizeof *table);
+    a = tangle_merge_write(bytes(), r.length, side, entries(&out), lent);
+    told(line, a.refusal, a.row, refusal);
+    check(line, "an entry differs", memcmp(out.room, expected.room, sizeof out.room) != 0, 0);
+    same_bytes(line, &kept);
+}
+
+static void write_refused(int line, uint32_t side, size_t lent, uint32_t refusal)
+{
+    write_table(line, side, lent, refusal, NULL, 0);
+}
+
 /* A record that every call refuses by one number. */
 static void refused(int line, uint32_t number)
 {
@@ -440,6 +498,8 @@ static void refused(int line, uint32_t number)
     hands(line, 0, number);
     write_text(line, TANGLE_LEFT, MOST, number, "");
     write_text(line, TANGLE_RIGHT, 0, number, "");
+    write_refused(line, TANGLE_LEFT, MOST_PLACES, number);
+    write_refused(line, TANGLE_RIGHT, 0, number);
 }
 
 /* A record that every call refuses by 7 or 8, with this row. */
@@ -745,6 +805,7 @@ static void longer_than_16_bits(void)
     static uint8_t s[65536 + 46];
     static struct tangle_entry many[65536];
     static uint16_t rows[65536 + 1];
+    static int32_t table[65536 + 6];
     uint16_t four[] = {4, 3, 1, 2};
     uint8_t text[14] = {0};
     int changed = 0;
@@ -764,6 +825,7 @@ static void longer_than_16_bits(void)
     check(__LINE__, "a hand list's refusal", tangle_hands(s, sizeof s, many, 0).refusal, 6);
     check(__LINE__, "a hand list's refusal", tangle_hands(s, 46, many, 65536).refusal, 17);
     check(__LINE__, "writing's refusal", tangle_newick_write(s, sizeof s, TANGLE_LEFT, text, 14).refusal, 6);
+    check(__LINE__, "a table's refusal", tangle_merge_write(s, sizeof s, TANGLE_LEFT, table, 6).refusal, 6);
     check(__LINE__, "a byte of the record changed", memcmp(s, bytes(), r.length) != 0, 0);
     check(__LINE__, "the buffer changed", four[0] == 4 && four[1] == 3 && four[2] == 1 && four[3] == 2, 1);
     for (size_t i = r.length; i < sizeof s; i++)
@@ -776,6 +838,12 @@ static void longer_than_16_bits(void)
     check(__LINE__, "n", tangle_newick_read(s, 14, rows, 65536 + 1).n, 4);
     check(__LINE__, "the rows differ", memcmp(rows, caterpillar, sizeof caterpillar) != 0 || rows[6] != 0, 0);
     check(__LINE__, "reading's refusal", tangle_newick_read(s, 65536 + 14, rows, 6).refusal, 18);
+
+    /* and a table */
+    check(__LINE__, "refusal", tangle_merge_write(bytes(), r.length, TANGLE_RIGHT, table, 65536 + 1).refusal, 0);
+    check(__LINE__, "refusal", tangle_merge_read(4, table, 6, rows, 65536 + 1).refusal, 0);
+    check(__LINE__, "the rows differ", memcmp(rows, balanced, sizeof balanced) != 0 || rows[6] != 0, 0);
+    check(__LINE__, "a table's refusal", tangle_merge_read(4, table, 65536 + 6, rows, 6).refusal, 6);
 }
 
 static void arguments_refused(void)
@@ -1212,6 +1280,204 @@ static void there_and_back(void)
     check(__LINE__, "the text differs", memcmp(text, again, sizeof again) != 0, 0);
 }
 
+/* ---- tables read and written */
+
+/* Case 2's rows as tables. */
+static const int32_t caterpillar_table[] = {-1, -2, -3, 1, -4, 2}, balanced_table[] = {-1, -2, -3, -4, 1, 2};
+
+static void tables_read(void)
+{
+    static const int32_t swapped[] = {-4, -3, 1, -1, 2, -2}, pair[] = {-2, -1}, five[] = {-1, -2, -3, -4, -5, 1, 2, 3};
+    static const uint16_t swapped_rows[] = {4, 3, 5, 1, 6, 2}, pair_rows[] = {2, 1};
+    static const uint16_t five_rows[] = {1, 2, 3, 4, 5, 6, 7, 8};
+
+    read_table(__LINE__, 1, pair, 0, 0, 0, NULL);
+    read_table(__LINE__, 1, pair, 0, MOST_PLACES, 0, NULL);
+    read_table(__LINE__, 2, pair, 2, 2, 0, pair_rows);
+    read_table(__LINE__, 4, caterpillar_table, 6, 6, 0, caterpillar);
+    read_table(__LINE__, 4, balanced_table, 6, 7, 0, balanced);
+    read_table(__LINE__, 4, swapped, 6, MOST_PLACES, 0, swapped_rows);
+    read_table(__LINE__, 5, five, 8, 8, 0, five_rows);
+
+    /* the room comes last */
+    read_table(__LINE__, 2, pair, 2, 1, 14, NULL);
+    read_table(__LINE__, 2, pair, 2, 0, 14, NULL);
+    read_table(__LINE__, 4, balanced_table, 6, 5, 14, NULL);
+}
+
+/* Case 2's left table with one entry changed, and another one too unless that is to be 0. */
+static void entry_refused(int line, size_t at, int32_t entry, size_t other, int32_t also, uint32_t refusal)
+{
+    int32_t table[6];
+
+    memcpy(table, caterpillar_table, sizeof table);
+    if (also != 0)
+        table[other] = also;
+    table[at] = entry;
+    table_refused(line, 4, table, 6, refusal);
+}
+
+/* 5 before 6, and both before the entries. */
+static void table_sizes_refused(void)
+{
+    static const uint32_t no_size[] = {0, 513, 514, 65535, 65536, 65537, 65540, 131076, 0x80000004, UINT32_MAX};
+    static const int32_t longer[] = {-1, -2, -3, 1, -4, 2, -5, 3};
+    static const int32_t nothing[6] = {0};
+
+    for (size_t i = 0; i < sizeof no_size / sizeof *no_size; i++) {
+        table_refused(__LINE__, no_size[i], caterpillar_table, 6, 5);
+        table_refused(__LINE__, no_size[i], nothing, 0, 5);
+        table_refused(__LINE__, no_size[i], nothing, 3, 5);
+    }
+    for (size_t length = 0; length <= 8; length++) {
+        if (length != 6) {
+            table_refused(__LINE__, 4, longer, length, 6);
+            table_refused(__LINE__, 512, longer, length, 6);
+        }
+        if (length != 0)
+            table_refused(__LINE__, 1, longer, length, 6);
+    }
+    table_refused(__LINE__, 3, nothing, 5, 6);
+}
+
+static void table_entries_refused(void)
+{
+    /* 20: in each place zero, the row itself, a later one, no leaf, the ends of 32 bits, a leaf and 256 or 65,536 */
+    for (size_t at = 0; at < 6; at++) {
+        int32_t row = (int32_t)at / 2 + 1;
+        const int32_t bad[] = {0, row, row + 1, 5, 511, -5, -513, INT32_MIN, INT32_MIN + 1, INT32_MAX, -257, -65537,
+                               65537};
+
+        for (size_t i = 0; i < sizeof bad / sizeof *bad; i++) {
+            entry_refused(__LINE__, at, bad[i], 0, 0, 20);
+            entry_refused(__LINE__, at, bad[i], at ^ 1, caterpillar_table[((at | 1) + 1) % 6], 20); /* before 21 */
+        }
+    }
+    entry_refused(__LINE__, 5, 0, 1, -1, 20); /* the last entry, with 21 in row 1 */
+    entry_refused(__LINE__, 5, 3, 1, -1, 20);
+    entry_refused(__LINE__, 4, INT32_MIN, 1, -1, 20);
+
+    /* 21: in the row itself, in the row before, from end to end, a row's number */
+    entry_refused(__LINE__, 1, -1, 0, 0, 21);
+    entry_refused(__LINE__, 2, -2, 0, 0, 21);
+    entry_refused(__LINE__, 5, -1, 0, 0, 21);
+    entry_refused(__LINE__, 5, 1, 0, 0, 21);
+    entry_refused(__LINE__, 4, 2, 0, 0, 21);
+    entry_refused(__LINE__, 0, -4, 0, 0, 21);
+}
+
+/* The rows of deep(512, 0) as a table. */
+static int32_t deep_table[TANGLE_MOST_ROWS];
+
+static void make_deep_table(void)
+{
+    for (int32_t i = 1; i < 512; i++) {
+        deep_table[2 * i - 2] = i == 1 ? -1 : i - 1;
+        deep_table[2 * i - 1] = -i - 1;
+    }
+}
+
+static void largest_tables(void)
+{
+    static int32_t more[TANGLE_MOST_ROWS + 2];
+    static uint16_t rows[TANGLE_MOST_ROWS];
+
+    make_deep_table();
+    for (uint16_t i = 1; i < 512; i++) {
+        rows[2 * i - 2] = i == 1 ? 1 : (uint16_t)(511 + i);
+        rows[2 * i - 1] = (uint16_t)(i + 1);
+    }
+    read_table(__LINE__, 512, deep_table, 1022, TANGLE_MOST_ROWS, 0, rows);
+    read_table(__LINE__, 512, deep_table, 1022, MOST_PLACES, 0, rows);
+    read_table(__LINE__, 512, deep_table, 1022, TANGLE_MOST_ROWS - 1, 14, NULL);
+    table_refused(__LINE__, 511, deep_table, 1022, 6);
+    table_refused(__LINE__, 512, deep_table, 1021, 6);
+    table_refused(__LINE__, 512, deep_table, 1020, 6);
+
+    memcpy(more, deep_table, sizeof deep_table); /* 513 leaves */
+    more[1022] = 511;
+    more[1023] = -513;
+    table_refused(__LINE__, 513, more, 1024, 5);
+    table_refused(__LINE__, 512, more, 1024, 6);
+    table_refused(__LINE__, 512, more, 1023, 6);
+
+    more[1021] = -513; /* the last entry, -512, is the last leaf */
+    table_refused(__LINE__, 512, more, 1022, 20);
+    more[1021] = 511; /* the row itself */
+    table_refused(__LINE__, 512, more, 1022, 20);
+    more[1021] = -1; /* the first entry again */
+    table_refused(__LINE__, 512, more, 1022, 21);
+    more[1021] = 509; /* as the row before has it */
+    table_refused(__LINE__, 512, more, 1022, 21);
+    more[1020] = 0;
+    table_refused(__LINE__, 512, more, 1022, 20);
+}
+
+static void tables_written(void)
+{
+    static const uint16_t pair[] = {2, 1};
+    static const int32_t pair_table[] = {-2, -1};
+
+    case2('N');
+    write_table(__LINE__, TANGLE_LEFT, 6, 0, caterpillar_table, 6);
+    write_table(__LINE__, TANGLE_RIGHT, 7, 0, balanced_table, 6);
+    write_table(__LINE__, TANGLE_LEFT, MOST_PLACES, 0, caterpillar_table, 6);
+    write_refused(__LINE__, TANGLE_LEFT, 5, 14);
+    write_refused(__LINE__, TANGLE_RIGHT, 0, 14);
+    case2('B'); /* a hold is no matter, nor is a layout */
+    memset(bytes() + 40, 1, 6);
+    write_table(__LINE__, TANGLE_LEFT, 6, 0, caterpillar_table, 6);
+    write_table(__LINE__, TANGLE_RIGHT, 6, 0, balanced_table, 6);
+    record('L', 1, NULL, NULL, identity);
+    write_table(__LINE__, TANGLE_LEFT, 0, 0, NULL, 0);
+    write_table(__LINE__, TANGLE_RIGHT, 3, 0, NULL, 0);
+    record('R', 2, pair, pair, identity);
+    write_table(__LINE__, TANGLE_RIGHT, 2, 0, pair_table, 2);
+    write_refused(__LINE__, TANGLE_RIGHT, 1, 14);
+
+    /* the side, then the record, then the room */
+    write_refused(__LINE__, 0, 0, 13);
+    write_refused(__LINE__, 3, MOST_PLACES, 13);
+    bytes()[r.length - 1] = 2;
+    write_refused(__LINE__, 3, 0, 13);
+    write_refused(__LINE__, TANGLE_LEFT, 0, 10);
+    make_deep_table();
+    deep(512, 1);
+    write_table(__LINE__, TANGLE_LEFT, TANGLE_MOST_ROWS, 0, deep_table, 1022);
+    write_table(__LINE__, TANGLE_RIGHT, MOST_PLACES, 0, deep_table, 1022);
+    write_refused(__LINE__, TANGLE_RIGHT, TANGLE_MOST_ROWS - 1, 14);
+}
+
+/* Rows to a table and back are the same rows, and a table to rows and back is the same table. */
+static void tables_there_and_back(void)
+{
+    static const uint16_t leaves[] = {1, 2, 3, 4, 63, 64, 65, 255, 256, 257, 511, 512};
+    static int32_t table[TANGLE_MOST_ROWS], again[TANGLE_MOST_ROWS];
+    static uint16_t rows[TANGLE_MOST_ROWS], links[512];
+
+    for (uint16_t a = 0; a < 512; a++)
+        links[a] = (uint16_t)(a + 1);
+    for (size_t i = 0; i < sizeof leaves / sizeof *leaves; i++) {
+        uint16_t n = leaves[i];
+        size_t length = 2 * (size_t)(n - 1);
+
+        deep(n, 0);
+        check(__LINE__, "refusal", tangle_merge_write(bytes(), r.length, TANGLE_LEFT, table, length).refusal, 0);
+        check(__LINE__, "refusal", tangle_merge_read(n, table, length, rows, length).refusal, 0);
+        kept = r;
+        record('N', n, rows, rows, links);
+        same_bytes(__LINE__, &kept);
+
+        for (size_t k = 0; k < length; k++) /* the same table with its leaves counted from the other end */
+            table[k] = table[k] < 0 ? -(n + 1) - table[k] : table[k];
+        check(__LINE__, "refusal", tangle_merge_read(n, table, length, rows, length).refusal, 0);
+        record('N', n, rows, rows, links);
+        checked(__LINE__, 0);
+        check(__LINE__, "refusal", tangle_merge_write(bytes(), r.length, TANGLE_RIGHT, again, length).refusal, 0);
+        check(__LINE__, "the table differs", memcmp(table, again, length * sizeof *table) != 0, 0);
+    }
+}
+
 /* ---- numbers whose low 8 or 16 bits would be accepted */
 
 static void wide_numbers(void)
@@ -1224,12 +1490,14 @@ static void wide_numbers(void)
     case2('N');
     for (size_t i = 0; i < 5; i++) {
         write_text(__LINE__, no_left[i], MOST, 13, "");
+        write_refused(__LINE__, no_left[i], MOST_PLACES, 13);
         order(__LINE__, no_left[i], 4, 13, "");
         free_side(__LINE__, no_left[i], 13, 0, 0);
         better(__LINE__, no_left[i], "4312", "1234", 13, 0);
     }
     for (size_t i = 0; i < 3; i++) {
         write_text(__LINE__, no_right[i], MOST, 13, "");
+        write_refused(__LINE__, no_right[i], MOST_PLACES, 13);
         order(__LINE__, no_right[i], 4, 13, "");
         free_side(__LINE__, no_right[i], 13, 0, 0);
         better(__LINE__, no_right[i], "4312", "1234", 13, 0);
@@ -1269,6 +1537,12 @@ int main(void)
     long_texts();
     texts_written();
     there_and_back();
+    tables_read();
+    table_sizes_refused();
+    table_entries_refused();
+    largest_tables();
+    tables_written();
+    tables_there_and_back();
     wide_numbers();
     printf("test: %u checks, %u failed\n", checks, failures);
     return failures == 0 && checks != 0 ? 0 : 1;

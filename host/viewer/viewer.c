@@ -43,6 +43,8 @@ static const char *words(uint32_t refusal)
     case TANGLE_HANDS: return "a hand list is longer than 1,024";
     case TANGLE_GRAMMAR: return "a text breaks the grammar";
     case TANGLE_LEAVES: return "a text's leaves aren't 1 to n once each, or n is above 512";
+    case TANGLE_ENTRY: return "an entry of a merge table is zero, or names no leaf, or no earlier row";
+    case TANGLE_TWICE: return "an entry of a merge table is used twice";
     default: return "a refusal without words";
     }
 }

@@ -5,11 +5,11 @@ use mathlib.Core.List.{List, [], _∷_, _++_, map}
 use native.Mathlib.Numerals.{add-one}
 use native.Mathlib.Omega.{arith}
 use lib.ListN.{length, getD, set, take, drop, length-drop}
-use lib.Seq.{sets, sets-eq, take-suc, length-take-le}
+use lib.Seq.{sets, sets-eq, length-take-le}
 use Rattle.tanglegram.specs.Lists.{range}
 use Rattle.tanglegram.proofs.Lists.{map-ext, range-each}
 use Rattle.tanglegram.proofs.ListSums.{range-last}
-use Rattle.work_trees.proofs.Stores.{sets-append}
+use Rattle.work_trees.proofs.Stores.{sets-append, take-more}
 use Rattle.record_fields.specs.Fields.{two, numbers, bytes, split}
 
 -- numbers read at the same places are the same where each is
@@ -20,7 +20,7 @@ numbers-ext s s′ k m h =
     (range-each (λ i. two s′ (k + 2 * i) ≡ two s (k + 2 * i)) 0 m (λ i p q. h i (omega arith)))
 
 -- a run from the first place on
-pub sets-front : (l vs : List ℕ) → length vs ≤ length l → sets l 0 vs ≡ vs ++ drop (length vs) l
+pub sets-front : {A : Type 0} (l vs : List A) → length vs ≤ length l → sets l 0 vs ≡ vs ++ drop (length vs) l
 sets-front l vs h = let e : 0 + length vs ≡ length vs = omega arith in sets-eq vs l 0 (omega arith) ∙ ap (λ k. vs ++ drop k l) e
 
 -- a range grows at its end, and so does what is made of it
@@ -59,10 +59,6 @@ pub numbers-more : (s : List ℕ) (at i : ℕ) → numbers s at (i + 1) ≡ numb
 unfolding numbers
 numbers-more s at i = map-range-end (λ k. two s (at + 2 * k)) i
 
--- the next entry of a list after its first i
-pub take-more : (xs : List ℕ) (i : ℕ) → i < length xs → take (i + 1) xs ≡ take i xs ++ (getD xs i 0 ∷ [])
-take-more xs i h = rw (add-one i) (take-suc xs i 0 h)
-
 -- ---- what a loop stores next, at place k
 
 -- the numbers that f gives
@@ -70,13 +66,6 @@ pub store-made : (f : ℕ → ℕ) (l : List ℕ) (at i k : ℕ) → k ≡ at + 
     set (sets l at (map f (range 0 i))) k (f i) ≡ sets l at (map f (range 0 (i + 1)))
 store-made f l at i k e =
     sym (ap (sets l at) (map-range-end f i) ∙ sets-append (map f (range 0 i)) (f i ∷ []) l at ∙ rw (length-map-range f 0 i, e) refl)
-
--- the entries of a list
-pub store-entry : (xs l : List ℕ) (at i k : ℕ) → k ≡ at + i → i < length xs →
-    set (sets l at (take i xs)) k (getD xs i 0) ≡ sets l at (take (i + 1) xs)
-store-entry xs l at i k e h =
-    let le : i ≤ length xs = omega arith in
-    sym (ap (sets l at) (take-more xs i h) ∙ sets-append (take i xs) (getD xs i 0 ∷ []) l at ∙ rw (length-take-le i xs le, e) refl)
 
 -- the two bytes of an entry
 pub split-append : (xs ys : List ℕ) → split (xs ++ ys) ≡ split xs ++ split ys
@@ -95,7 +84,7 @@ store-two xs l at i h =
     let le : i ≤ length xs = omega arith in
     let x = getD xs i 0 in
     let e : length (split (take i xs)) ≡ 2 * i = length-split (take i xs) ∙ ap (λ n. 2 * n) (length-take-le i xs le) in
-    sym (ap (λ r. sets l at (split r)) (take-more xs i h)
+    sym (ap (λ r. sets l at (split r)) (take-more xs i 0 h)
     ∙ ap (sets l at) (split-append (take i xs) (x ∷ []))
     ∙ sets-append (split (take i xs)) (split (x ∷ [])) l at
     ∙ rw e refl)

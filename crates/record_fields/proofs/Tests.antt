@@ -12,7 +12,7 @@ use Rattle.tanglegram.proofs.Bools.{and-both}
 use Rattle.tanglegram.proofs.Lists.{each-map, each-intro, mem-perm, mem-at, pigeon, range-distinct, length-range}
 use Rattle.work_tree_rule.specs.Rule.{among}
 use Rattle.record_fields.specs.Refusals.{all, isLayout, oneToOne}
-use Rattle.record_fields.proofs.Stores.{take-more}
+use Rattle.work_trees.proofs.Stores.{take-more}
 
 -- ---- each entry passes a test
 
@@ -100,7 +100,7 @@ pub layout-more : (xs : List ℕ) (i : ℕ) → i < length xs → isLayout (take
     isLayout (take (i + 1) xs) ≡ true
 unfolding isLayout all
 layout-more xs i h e b =
-    ap (all (λ x. leb x 1)) (take-more xs i h)
+    ap (all (λ x. leb x 1)) (take-more xs i 0 h)
     ∙ all-append (λ x. leb x 1) (take i xs) (getD xs i 0 ∷ [])
     ∙ rw (e, le-leb (getD xs i 0) 1 b) refl
 

@@ -18,7 +18,7 @@ abbrev pub accepted : ℕ → Bool
 accepted k = eqb k 0
 
 -- What is in a lent buffer afterwards: if accepted, the part in its first places and beyond as found; if refused, as found.
-abbrev pub lent : ℕ → List ℕ → List ℕ → List ℕ
+abbrev pub lent : {A : Type 0} → ℕ → List A → List A → List A
 lent k part found = cond (accepted k) (part ++ drop (length part) found) found
 
 -- A number that a refused call answers by zero.

@@ -36,7 +36,7 @@ pub const VERSION: u16 = 3;
 pub const HOLD: u16 = 4;
 // n is 0 or above 512
 pub const SIZE: u16 = 5;
-// the length isn't 12n-2; in packing, a list has the wrong length
+// the length isn't 12n-2; in packing, a list has the wrong length; a merge table hasn't n-1 pairs
 pub const LENGTH: u16 = 6;
 // a left row breaks the tree rule
 pub const LEFT_ROW: u16 = 7;
@@ -64,3 +64,7 @@ pub const HANDS: u16 = 17;
 pub const GRAMMAR: u16 = 18;
 // a text's leaves aren't 1 to n, each once, or n is above 512
 pub const LEAVES: u16 = 19;
+// an entry of a merge table is zero, or names no leaf, or no earlier row
+pub const ENTRY: u16 = 20;
+// an entry of a merge table is used twice
+pub const TWICE: u16 = 21;

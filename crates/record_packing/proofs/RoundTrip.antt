@@ -17,7 +17,8 @@ use Rattle.record_fields.specs.Fields.{leftLayoutAt, rightLayoutAt, lengthOf, P
 use Rattle.record_fields.specs.Fields.{given, opening, parts, partsOf, packed}
 use Rattle.record_fields.specs.Refusals.{isMark, isHold, noSize, contentsRefusal, headingRefusal, refusal}
 use Rattle.tanglegram.proofs.Bools.{and-both}
-use Rattle.record_fields.proofs.Stores.{getD-made, length-numbers, length-split, split-append, map-range-end, take-more, length-bytes}
+use Rattle.work_trees.proofs.Stores.{take-more}
+use Rattle.record_fields.proofs.Stores.{getD-made, length-numbers, length-split, split-append, map-range-end, length-bytes}
 use Rattle.record_fields.proofs.Heading.{heading-0, unsized}
 use Rattle.record_fields.proofs.Acceptance.{accepted-heading, accepted-contents, refusal-contents}
 use Rattle.record_packing.specs.Refusals.{packRefusal}
@@ -156,8 +157,8 @@ module _ (s : List ℕ) (small : Each (λ b. b < 256) s) where
       ∙ ap₂ (λ x y. split (numbers s k m) ++ (x ∷ y ∷ [])) a b
       ∙ ap (λ l. l ++ (getD r (2 * m) 0 ∷ getD r (2 * m + 1) 0 ∷ [])) (split-numbers k m (omega arith))
       ∙ sym (append-assoc (take (2 * m) r) (getD r (2 * m) 0 ∷ []) (getD r (2 * m + 1) 0 ∷ []))
-      ∙ ap (λ l. l ++ (getD r (2 * m + 1) 0 ∷ [])) (sym (take-more r (2 * m) (omega arith)))
-      ∙ sym (take-more r (2 * m + 1) (omega arith))
+      ∙ ap (λ l. l ++ (getD r (2 * m + 1) 0 ∷ [])) (sym (take-more r (2 * m) 0 (omega arith)))
+      ∙ sym (take-more r (2 * m + 1) 0 (omega arith))
       ∙ ap (λ k. take k r) i
 
   -- the next bytes and all after them

@@ -12,6 +12,7 @@ use crate::made::{self, Made};
 use crate::malformed;
 use crate::random::Random;
 use crate::spelling;
+use crate::tables;
 
 /// Writes so many lines.
 pub fn write(seed: u64, count: u64, out: &mut impl Write) -> io::Result<()> {
@@ -53,7 +54,7 @@ fn any_size(random: &mut Random) -> usize {
 fn any_call(random: &mut Random) -> String {
     let made = made::any_record(any_size(random), random);
     let record = faults::any_bytes(&made, random);
-    match random.below(111) {
+    match random.below(122) {
         0..=4 => lines::plain("check", &record),
         5..=13 => {
             let side = any_side(random);
@@ -71,7 +72,9 @@ fn any_call(random: &mut Random) -> String {
         89..=94 => any_pack(made, random),
         95..=99 => any_unpack(&made, &record, random),
         100..=106 => any_newick_read(&made, random),
-        _ => any_newick_write(&made, &record, random),
+        107..=110 => any_newick_write(&made, &record, random),
+        111..=117 => any_merge_read(&made, random),
+        _ => any_merge_write(&made, &record, random),
     }
 }
 
@@ -311,6 +314,36 @@ fn any_newick_write(made: &Made, record: &[u8], random: &mut Random) -> String {
     lines::newick_write(record, side, &rubbish_bytes(places, random))
 }
 
+/// A side as a merge table: as it is, column by column, or spoilt in one way or two; n and the room
+/// may be spoilt as well.
+fn any_merge_read(made: &Made, random: &mut Random) -> String {
+    let mut n = made.n;
+    let mut table = tables::of_rows(made.rows(1 + random.below(2) as u16));
+    let exact = table.len();
+    for _ in 0..random.pick(&[0, 1, 1, 2]) {
+        match random.below(100) {
+            0..=49 if !table.is_empty() => tables::damage_an_entry(&mut table, random),
+            50..=59 => tables::change_the_length(&mut table, random),
+            60..=67 => n = random.pick(&[0, 1, 512, 513, 65535, 256 + n, n + 1, n - 1]),
+            68..=79 => table = tables::by_columns(&table),
+            _ => {}
+        }
+    }
+    let table: Vec<String> = table.iter().map(|&entry| tables::spelt(entry, random)).collect();
+    let out = any_buffer(exact, random);
+    lines::merge_read(text(n as u64, random), &table, &out)
+}
+
+/// What stands in the places of a table beforehand: small numbers, or any of 32 bits.
+fn any_merge_write(made: &Made, record: &[u8], random: &mut Random) -> String {
+    let side = any_side(random);
+    let places = any_places(2 * (made.n as usize - 1), random);
+    let wide = places <= 60 && random.chance(200);
+    let rubbish = |random: &mut Random| if wide { random.next() as i32 } else { random.below(19) as i32 - 9 };
+    let out: Vec<i32> = (0..places).map(|_| rubbish(random)).collect();
+    lines::merge_write(record, side, &out)
+}
+
 #[cfg(test)]
 mod tests {
     use super::*;
@@ -320,11 +353,11 @@ mod tests {
     fn a_seed_gives_the_same_lines() {
         let mut one = Vec::new();
         let mut two = Vec::new();
-        write(5, 8000, &mut one).unwrap();
-        write(5, 8000, &mut two).unwrap();
+        write(5, 12_000, &mut one).unwrap();
+        write(5, 12_000, &mut two).unwrap();
         assert!(one == two);
         let lines: Vec<&[u8]> = one.split(|&byte| byte == b'\n').collect();
-        assert_eq!(lines.len(), 8001);
+        assert_eq!(lines.len(), 12_001);
         assert!(lines.iter().all(|line| line.len() <= 100_000));
     }
 

@@ -3,6 +3,7 @@
 // At most 1,048,576 bytes are read, and a line that does not end within them gets no answer.
 
 use crate::firmware;
+use crate::merge;
 use crate::newick;
 use crate::record::{self, Buffers, Parts};
 use crate::refusals::{told, Refusal};
@@ -26,6 +27,8 @@ pub enum Call {
     Unpack(Vec<u8>, [Vec<u16>; 3], [Vec<u8>; 2]),
     NewickRead(Vec<u8>, Vec<u16>),
     NewickWrite(Vec<u8>, u16, Vec<u8>),
+    MergeRead(u16, Vec<i32>, Vec<u16>),
+    MergeWrite(Vec<u8>, u16, Vec<i32>),
 }
 
 /// One or more digits making a number that is not above the most; nothing wraps.
@@ -58,24 +61,37 @@ fn letter(word: &[u8]) -> Option<u8> {
     number(word, u8::MAX as u64).map(|value| value as u8)
 }
 
-/// Numbers separated by commas, or `-`.
-fn list(word: &[u8]) -> Option<Vec<u16>> {
-    if word == b"-" {
-        return Some(Vec::new());
-    }
-    word.split(|&byte| byte == b',').map(short).collect()
+/// A number with a `-` before it where it is negative.
+fn signed(word: &[u8]) -> Option<i32> {
+    let value = match word.strip_prefix(b"-") {
+        Some(digits) => -(number(digits, 1 << 31)? as i64),
+        None => number(word, (1 << 31) - 1)? as i64,
+    };
+    i32::try_from(value).ok()
 }
 
-/// `side:row` pairs separated by commas, or `-`.
-fn hands(word: &[u8]) -> Option<Vec<(u16, u16)>> {
+/// Entries separated by commas, or `-`.
+fn entries<T>(word: &[u8], entry: impl Fn(&[u8]) -> Option<T>) -> Option<Vec<T>> {
     if word == b"-" {
         return Some(Vec::new());
     }
-    let entry = |entry: &[u8]| {
+    word.split(|&byte| byte == b',').map(entry).collect()
+}
+
+fn list(word: &[u8]) -> Option<Vec<u16>> {
+    entries(word, short)
+}
+
+fn signed_list(word: &[u8]) -> Option<Vec<i32>> {
+    entries(word, signed)
+}
+
+/// `side:row` pairs.
+fn hands(word: &[u8]) -> Option<Vec<(u16, u16)>> {
+    entries(word, |entry| {
         let colon = entry.iter().position(|&byte| byte == b':')?;
         Some((short(&entry[..colon])?, short(&entry[colon + 1..])?))
-    };
-    word.split(|&byte| byte == b',').map(entry).collect()
+    })
 }
 
 /// Two hexadecimal digits for each byte, or `-`.
@@ -122,6 +138,8 @@ pub fn call(line: &[u8]) -> Option<Call> {
         }
         (b"newick_read", &[t, o]) => Call::NewickRead(bytes(t)?, list(o)?),
         (b"newick_write", &[a, s, o]) => Call::NewickWrite(bytes(a)?, short(s)?, bytes(o)?),
+        (b"merge_read", &[n, t, o]) => Call::MergeRead(short(n)?, signed_list(t)?, list(o)?),
+        (b"merge_write", &[a, s, o]) => Call::MergeWrite(bytes(a)?, short(s)?, signed_list(o)?),
         _ => return None,
     })
 }
@@ -135,7 +153,7 @@ pub fn hex(bytes: &[u8]) -> String {
 }
 
 /// A list as it is written: decimal numbers separated by commas, or `-`.
-pub fn commas(list: &[u16]) -> String {
+pub fn commas<T: ToString>(list: &[T]) -> String {
     if list.is_empty() {
         return "-".to_string();
     }
@@ -220,6 +238,16 @@ fn newick_write_answer(record: &[u8], side: u16, mut out: Vec<u8>) -> String {
     format!("{} {} {}", told(&result), result.unwrap_or(0), hex(&out))
 }
 
+fn merge_read_answer(n: u16, table: &[i32], mut out: Vec<u16>) -> String {
+    let result = merge::read(n, table, &mut out);
+    format!("{} {}", told(&result), commas(&out))
+}
+
+fn merge_write_answer(record: &[u8], side: u16, mut out: Vec<i32>) -> String {
+    let result = merge::write(record, side, &mut out);
+    format!("{} {}", told(&result), commas(&out))
+}
+
 /// The answer to a line without its line feed.
 pub fn answer(line: &[u8]) -> String {
     let Some(call) = call(line) else {
@@ -241,6 +269,8 @@ pub fn answer(line: &[u8]) -> String {
         Call::Unpack(record, numbers, layouts) => unpack_answer(&record, numbers, layouts),
         Call::NewickRead(text, out) => newick_read_answer(&text, out),
         Call::NewickWrite(record, side, out) => newick_write_answer(&record, side, out),
+        Call::MergeRead(n, table, out) => merge_read_answer(n, &table, out),
+        Call::MergeWrite(record, side, out) => merge_write_answer(&record, side, out),
     }
 }
 
@@ -293,6 +323,29 @@ mod tests {
     }
 
     #[test]
+    fn signed_lists() {
+        assert_eq!(signed_list(b"-"), Some(vec![]));
+        assert_eq!(signed_list(b"-1,0,-0,007,-007"), Some(vec![-1, 0, 0, 7, -7]));
+        assert_eq!(signed_list(b"2147483647,-2147483648"), Some(vec![i32::MAX, i32::MIN]));
+        assert_eq!(signed(b"-00000000000000000000002147483648"), Some(i32::MIN));
+        for word in ["2147483648", "-2147483649", "4294967295", "-4294967297", "123456789012345678901234567890"]
+        {
+            assert_eq!(signed(word.as_bytes()), None);
+            assert_eq!(signed_list(format!("-1,{word}").as_bytes()), None);
+        }
+        for word in
+            ["", "--1", "1-", "-,-", "-,1", "1,-", "+1", ",", "1,", ",1", "1,,2", "- 1", "--", "-a", "1.0"]
+        {
+            assert_eq!(signed_list(word.as_bytes()), None, "{word}");
+        }
+        assert_eq!(answer(b"merge_read 4 -1,-2,-3,1,-4,2 0,0,0,0,0,0,0"), "0 1,2,3,5,4,6,0");
+        assert_eq!(answer(b"merge_read 1 - -"), "0 -");
+        assert_eq!(answer(b"merge_read 2 -0,-1 8"), "20 8");
+        assert_eq!(answer(b"merge_write - 1 -0,-2147483648,0012"), "1 0,-2147483648,12");
+        assert_eq!(answer(b"merge_write - 1 -2147483649"), "?");
+    }
+
+    #[test]
     fn lines_that_are_no_calls() {
         assert_eq!(answer(b"check -"), "1");
         for line in ["", " ", "check", "check ", " check -", "check  -", "check - ", "check -\r", "check\t-"] {
@@ -326,6 +379,7 @@ mod tests {
             ("pack 78 4 1,2,3,5,4,6 0,2,3,4,5,6 1,2,3,4 000000 000000 00", "8 1 00"),
             ("unpack R 6,6 - 0 00 -", "7 3 0 0 6,6 - 0 00 -"),
             ("newick_write R 1 0a0b", "7 3 0 0a0b"),
+            ("merge_write R 2 -5,5", "7 3 -5,5"),
         ];
         let record = hex(&made.bytes());
         for (call, wanted) in calls {
@@ -339,6 +393,7 @@ mod tests {
             Call::Check(..) | Call::BetterCheck(..) => Some(1),
             Call::Order(..) | Call::Count(..) | Call::Pairs(..) => Some(2),
             Call::Hands(..) | Call::Hold(..) | Call::Pack(..) => Some(2),
+            Call::MergeRead(..) | Call::MergeWrite(..) => Some(2),
             Call::NewickRead(..) | Call::NewickWrite(..) => Some(3),
             Call::Entanglement(..) | Call::Free(..) => Some(4),
             Call::Run(..) => Some(6),

@@ -9,6 +9,7 @@ use crate::faults;
 use crate::lines;
 use crate::made::{any_record, case_2, example, of_shape, Made};
 use crate::malformed;
+use crate::merge_edges;
 use crate::newick_edges;
 use crate::random::Random;
 use crate::spelling;
@@ -36,6 +37,7 @@ pub fn all() -> Vec<String> {
     all.extend(packing_several_faults());
     all.extend(unpacking());
     all.extend(newick_edges::all());
+    all.extend(merge_edges::all());
     all.extend(sizes());
     all.extend(bad_records());
     all.extend(bad_records_and_arguments());
@@ -109,6 +111,7 @@ fn calls_on(made: &Made, record: &[u8]) -> Vec<String> {
     calls.push(lines::unpack(record, &numbers, &[vec![8; n - 1], vec![8; n - 1]]));
     let length = spelling::tree(&made.left, &made.left_layout).concat().len();
     calls.push(lines::newick_write(record, 2, &vec![8; length]));
+    calls.push(lines::merge_write(record, 1, &vec![8; 2 * (n - 1)]));
     calls
 }
 
@@ -250,13 +253,16 @@ fn long_hand_lists() -> Vec<String> {
     let list = |length: usize| -> Vec<(u16, u16)> {
         (0..length).map(|at| (1 + at as u16 % 2, 1 + at as u16 % 3)).collect()
     };
-    for length in [1024, 1025, 1023, 1026, 2048] {
+    let lengths = [1024, 1025, 1023, 1026, 2048];
+    for length in lengths {
         calls.push(lines::hands(&made.bytes(), &list(length)));
-        calls.push(lines::hands(&with_hold(made.clone(), b'B').bytes(), &list(length)));
-        calls.push(lines::hands(&made.bytes()[..7], &list(length)));
         let mut last_bad = list(length);
         last_bad[length - 1] = (2, 4);
         calls.push(lines::hands(&made.bytes(), &last_bad));
+    }
+    for length in lengths {
+        calls.push(lines::hands(&made.bytes()[..7], &list(length)));
+        calls.push(lines::hands(&with_hold(made.clone(), b'B').bytes(), &list(length)));
         calls.push(lines::hands(&one_leaf().bytes(), &list(length)));
     }
     let whole: Vec<(u16, u16)> = (0..1024).map(|at| (1 + at / 512, 1 + at % 511)).collect();

@@ -108,6 +108,11 @@ pub fn damage_a_part(made: &mut Made, random: &mut Random) {
     }
 }
 
+/// The other entry of the row at a place, or the same where the list ends with half a row.
+pub fn other_entry<T: Copy>(rows: &[T], at: usize) -> T {
+    *rows.get(at ^ 1).unwrap_or(&rows[at])
+}
+
 fn damage_a_row(rows: &mut [u16], n: u16, random: &mut Random) {
     if rows.is_empty() {
         return;
@@ -116,7 +121,7 @@ fn damage_a_row(rows: &mut [u16], n: u16, random: &mut Random) {
     let object = n + at as u16 / 2 + 1;
     rows[at] = match random.below(8) {
         0 => 0,
-        1 => rows[at ^ 1],
+        1 => other_entry(rows, at),
         2 => object,
         3 => object + random.below(4) as u16,
         4 => rows[at].wrapping_add(256),
@@ -199,6 +204,16 @@ mod tests {
     use super::*;
     use crate::firmware;
     use crate::refusals::told;
+
+    #[test]
+    fn lists_of_any_length_can_be_damaged() {
+        let mut random = Random::new(22);
+        for _ in 0..2000 {
+            let mut rows: Vec<u16> = (0..random.below(4) as u16).collect();
+            damage_a_row(&mut rows, 3, &mut random);
+        }
+        assert_eq!([0, 1, 2].map(|at| other_entry(&[5, 6, 7], at)), [6, 5, 7]);
+    }
 
     #[test]
     fn the_fixed_faults_show_every_refusal() {

@@ -5,6 +5,7 @@
 use crate::crossings;
 use crate::record::{self, Record, Side};
 use crate::refusals::{self, Refusal};
+use crate::room;
 use crate::tree;
 
 const MOST_TURNS: u32 = 130_818;
@@ -19,11 +20,7 @@ pub fn check(bytes: &[u8]) -> Result<(), Refusal> {
 pub fn order(bytes: &[u8], side: u16, out: &mut [u16]) -> Result<(), Refusal> {
     let side = Side::of(side)?;
     let record = record::read(bytes)?;
-    if out.len() < record.n {
-        return Err(refusals::BUFFER);
-    }
-    out[..record.n].copy_from_slice(&present_order(&record, side));
-    Ok(())
+    room::put(&present_order(&record, side), out)
 }
 
 fn present_order(record: &Record, side: Side) -> Vec<u16> {

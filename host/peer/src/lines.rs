@@ -61,3 +61,12 @@ pub fn newick_read(text: &[u8], out: &[u16]) -> String {
 pub fn newick_write(record: &[u8], side: impl Display, out: &[u8]) -> String {
     format!("newick_write {} {side} {}", hex(record), hex(out))
 }
+
+/// The entries may be numbers or text.
+pub fn merge_read<T: ToString>(n: impl Display, table: &[T], out: &[u16]) -> String {
+    format!("merge_read {n} {} {}", commas(table), commas(out))
+}
+
+pub fn merge_write(record: &[u8], side: impl Display, out: &[i32]) -> String {
+    format!("merge_write {} {side} {}", hex(record), commas(out))
+}

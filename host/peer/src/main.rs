@@ -1,5 +1,5 @@
-// peer: the calls (docs/CALLS.md, docs/NEWICK.md) and the record (docs/RECORD.md) written a second
-// time, from the customer's definitions, to be compared with the firmware.
+// peer: the calls (docs/CALLS.md, docs/NEWICK.md, docs/MERGE.md) and the record (docs/RECORD.md)
+// written a second time, from the customer's definitions, to be compared with the firmware.
 //   peer answers               answers desk's lines from standard input
 //   peer calls SEED COUNT      writes so many lines of calls
 //   peer sheet                 what `sheet` prints for the record on standard input
@@ -19,16 +19,21 @@ mod firmware;
 mod lines;
 mod made;
 mod malformed;
+mod merge;
+mod merge_edges;
 mod newick;
 mod newick_edges;
 mod quick;
 mod random;
 mod record;
 mod refusals;
+mod room;
 mod shapes;
 mod sheet;
+mod sides;
 mod speed;
 mod spelling;
+mod tables;
 mod tree;
 
 use std::io::{self, BufWriter, Read, Write};

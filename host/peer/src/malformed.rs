@@ -33,7 +33,26 @@ const AROUND: &str = "\
     newick_write|newick_write R|newick_write R 1|newick_write R 1 |newick_write R 1 - -|newick_write R 1 0|\
     newick_write R 1 000|newick_write R 1 0,0|newick_write R 65537 00|newick_write R 65536 00|\
     newick_write R - 00|newick_write R 1 0G|newick_write R 1a 00|newick_write R,R 1 00|newick_write 1 R 00|\
-    newick_write R 4294967297 00|newick_writes R 1 00|newick_write - 65536 -|newick_write R0 1 00";
+    newick_write R 4294967297 00|newick_writes R 1 00|newick_write - 65536 -|newick_write R0 1 00|\
+    merge_read|merge_read 2|merge_read 2 -1,-2|merge_read 2 -1,-2 |merge_read 2 -1,-2 0,0 -|merge_read  2 -1,-2 0,0|\
+    merge_read 2 --1,-2 0,0|merge_read 2 1-,-2 0,0|merge_read 2 -1,- 0,0|merge_read 2 -,-2 0,0|merge_read 2 -,- 0,0|\
+    merge_read 2 +1,-2 0,0|merge_read 2 -+1,-2 0,0|merge_read 2 -1,+2 0,0|merge_read 2 , 0,0|merge_read 2 -1, 0,0|\
+    merge_read 2 ,-2 0,0|merge_read 2 -1,,-2 0,0|merge_read 2 -1;-2 0,0|merge_read 2 -1, -2 0,0|merge_read 2 -- 0,0|\
+    merge_read 2 - 1,-2 0,0|merge_read 2 -1,2147483648 0,0|merge_read 2 -2147483649,-2 0,0|\
+    merge_read 2 -1,4294967294 0,0|merge_read 2 -4294967297,-2 0,0|merge_read 2 -18446744073709551617,-2 0,0|\
+    merge_read 2 -1,123456789012345678901234567890 0,0|merge_read 2 -123456789012345678901234567890,-2 0,0|\
+    merge_read 2 -00000000002147483649,-2 0,0|merge_read 2 -1.0,-2 0,0|merge_read 2 -1e0,-2 0,0|\
+    merge_read 2 -0x1,-2 0,0|merge_read 2 -1:-2 0,0|merge_read 2 (-1,-2) 0,0|merge_read 2 -1,-2L 0,0|\
+    merge_read 2 NA,-2 0,0|merge_read 2 \u{2212}1,-2 0,0|merge_read 2 -1,-2\r 0,0|merge_read 2 -1,-2 0,|\
+    merge_read 2 -1,-2 0,-1|merge_read 2 -1,-2 -0,0|merge_read 2 -1,-2 0,65536|merge_read 2 -1,-2 --|\
+    merge_read 65536 - -|merge_read 65537 - -|merge_read 65538 -1,-2 0,0|merge_read 4294967298 -1,-2 0,0|\
+    merge_read -2 -1,-2 0,0|merge_read - -1,-2 0,0|merge_read 2. -1,-2 0,0|merge_read 513 0,2147483648 -|\
+    Merge_read 1 - -|mergeread 1 - -|merge-read 1 - -|merge 1 - -|merge_write|merge_write R|merge_write R 1|\
+    merge_write R 1 |merge_write R 1 - -|merge_write R 1 0,|merge_write R 1 --1|merge_write R 1 1-|\
+    merge_write R 1 0,-|merge_write R 1 +1|merge_write R 1 0,2147483648|merge_write R 1 -2147483649|\
+    merge_write R 1 123456789012345678901234567890|merge_write R 65536 0|merge_write R 65537 0,0,0,0,0,0|\
+    merge_write R -1 0|merge_write R - 0|merge_write R,R 1 0|merge_write R0 1 0|merge_write 1 R 0|\
+    merge_write R 1a 0|merge_writes R 1 0|merge_write - 65536 -|merge_write 00 3 2147483648";
 
 /// Fixed lines around one good record (its hexadecimal digits).
 pub fn fixed(record: &str) -> Vec<String> {

@@ -5,6 +5,7 @@
 
 use crate::record::{self, Row, Side, MOST_LEAVES};
 use crate::refusals::{self, Refusal};
+use crate::room;
 
 /// The most groups that may be open at once.
 const MOST_OPEN: usize = 511;
@@ -158,10 +159,7 @@ fn rows(text: &[u8]) -> Result<Vec<Row>, Refusal> {
 /// 19, 14, or n.
 pub fn read(text: &[u8], out: &mut [u16]) -> Result<u16, Refusal> {
     let rows = rows(text)?.concat();
-    if out.len() < rows.len() {
-        return Err(refusals::BUFFER);
-    }
-    out[..rows.len()].copy_from_slice(&rows);
+    room::put(&rows, out)?;
     Ok(rows.len() as u16 / 2 + 1)
 }
 
@@ -187,10 +185,7 @@ pub fn write(bytes: &[u8], side: u16, out: &mut [u8]) -> Result<usize, Refusal> 
     let side = Side::of(side)?;
     let record = record::read(bytes)?;
     let text = object_text(record.rows(side), record.layout(side), 2 * record.n - 1) + ";";
-    if out.len() < text.len() {
-        return Err(refusals::BUFFER);
-    }
-    out[..text.len()].copy_from_slice(text.as_bytes());
+    room::put(text.as_bytes(), out)?;
     Ok(text.len())
 }
 
@@ -201,6 +196,7 @@ mod tests {
     use crate::random::Random;
     use crate::refusals::told;
     use crate::shapes;
+    use crate::sides;
     use crate::spelling;
     use crate::tree;
 
@@ -491,35 +487,14 @@ mod tests {
 
     #[test]
     fn refusals_of_writing() {
-        let record = case_2();
-        let mut bad_row = case_2();
-        bad_row.right[5] = 1;
-        let mut bad_layout = case_2();
-        bad_layout.left_layout[1] = 2;
-        let calls = [
-            (record.bytes(), 0, 0, "13"),
-            (record.bytes(), 3, 99, "13"),
-            (record.bytes(), 257, 99, "13"),
-            (record.bytes(), 65535, 99, "13"),
-            (bad_row.bytes(), 3, 0, "13"),
-            (vec![], 0, 0, "13"),
-            (vec![], 1, 0, "1"),
-            (bad_row.bytes(), 1, 0, "8 3"),
-            (bad_row.bytes(), 2, 99, "8 3"),
-            (bad_layout.bytes(), 2, 0, "10"),
-            (record.bytes(), 1, 13, "14"),
-            (record.bytes(), 2, 0, "14"),
-            (record.bytes(), 1, 14, "0"),
-            (record.bytes(), 1, 15, "0"),
-        ];
-        for (bytes, side, places, wanted) in calls {
+        sides::refuses_as_a_writing_call(14, |bytes, side, places| {
             let mut out = vec![7; places];
-            let result = write(&bytes, side, &mut out);
-            assert_eq!(told(&result), wanted);
+            let result = write(bytes, side, &mut out);
             let length = result.unwrap_or(0);
-            assert_eq!(length, if wanted == "0" { 14 } else { 0 });
+            assert_eq!(length, if result.is_ok() { 14 } else { 0 });
             assert!(out[length..].iter().all(|&byte| byte == 7));
-        }
+            told(&result)
+        });
     }
 
     #[test]

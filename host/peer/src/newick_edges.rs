@@ -2,11 +2,11 @@
 // way to break the grammar in a small text, and several faults at once so that the order of the
 // tests shows. The longest calls come first.
 
-use crate::faults;
 use crate::lines;
 use crate::made::{case_2, example, of_shape};
 use crate::random::Random;
 use crate::shapes::{self, Exchange, Shape};
+use crate::sides;
 use crate::spelling;
 
 /// All fixed lines of Newick text.
@@ -24,7 +24,9 @@ pub fn all() -> Vec<String> {
     all.extend(room_for_rows());
     all.extend(layouts_written());
     all.extend(room_for_text());
-    all.extend(sides_and_records());
+    all.extend(sides::of_a_writing_call(14, |record, side, places| {
+        lines::newick_write(record, side, &vec![7; places])
+    }));
     all
 }
 
@@ -374,29 +376,6 @@ fn room_for_text() -> Vec<String> {
         others.extend([of(length + 1), of(0), of(1)]);
     }
     [exact_or_short, others].concat()
-}
-
-/// Every side, on records with each hold and on faulty ones, with room and without.
-fn sides_and_records() -> Vec<String> {
-    let mut calls = Vec::new();
-    for side in [0, 1, 2, 3, 256, 257, 258, 65535] {
-        for hold in *b"NLRB" {
-            let mut made = case_2();
-            made.hold = hold;
-            calls.push(lines::newick_write(&made.bytes(), side, &[7; 14]));
-        }
-        for record in faults::one_of_each() {
-            calls.push(lines::newick_write(&record, side, &[]));
-        }
-    }
-    for record in faults::one_of_each() {
-        calls.push(lines::newick_write(&record, 1, &[7; 13]));
-        calls.push(lines::newick_write(&record, 2, &[7; 14]));
-    }
-    for record in faults::several() {
-        calls.push(lines::newick_write(&record, 2, &[7; 3]));
-    }
-    calls
 }
 
 #[cfg(test)]

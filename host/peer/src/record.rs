@@ -4,6 +4,7 @@
 // for the most leaves there can be; only the first n-1 or n places are in use.
 
 use crate::refusals::{self, Refusal};
+use crate::room;
 use crate::tree;
 
 pub const MOST_LEAVES: usize = 512;
@@ -105,6 +106,14 @@ impl Record {
     }
 }
 
+/// How many leaves this n says: 5 if it is 0 or above the most.
+pub fn leaves(n: u16) -> Result<usize, Refusal> {
+    match n as usize {
+        leaves @ 1..=MOST_LEAVES => Ok(leaves),
+        _ => Err(refusals::SIZE),
+    }
+}
+
 /// 12n-2.
 fn length(n: usize) -> usize {
     12 * n - 2
@@ -147,11 +156,7 @@ fn read_head(bytes: &[u8]) -> Result<(u8, usize), Refusal> {
     if !is_hold(hold) {
         return Err(refusals::HOLD);
     }
-    let n = two_bytes(&bytes[6..]) as usize;
-    if n == 0 || n > MOST_LEAVES {
-        return Err(refusals::SIZE);
-    }
-    Ok((hold, n))
+    Ok((hold, leaves(two_bytes(&bytes[6..]))?))
 }
 
 /// Refusals 1 to 10; else the record.
@@ -203,10 +208,7 @@ pub struct Parts<'a> {
 
 /// Packs a record into the first 12n-2 bytes of `out`: 4, 5, 6, 7 to 10, 14.
 pub fn pack(hold: u8, n: u16, parts: &Parts, out: &mut [u8]) -> Result<(), Refusal> {
-    let record = test_packing(hold, n, parts)?;
-    if out.len() < length(record.n) {
-        return Err(refusals::BUFFER);
-    }
+    test_packing(hold, n, parts)?;
     let mut bytes = MARK.to_vec();
     bytes.extend(VERSION.to_be_bytes());
     bytes.push(hold);
@@ -216,19 +218,15 @@ pub fn pack(hold: u8, n: u16, parts: &Parts, out: &mut [u8]) -> Result<(), Refus
     }
     bytes.extend(parts.left_layout);
     bytes.extend(parts.right_layout);
-    out[..bytes.len()].copy_from_slice(&bytes);
-    Ok(())
+    room::put(&bytes, out)
 }
 
-/// Packing's 4, 5, 6 and 7 to 10; else the record of these parts.
-fn test_packing(hold: u8, n: u16, parts: &Parts) -> Result<Record, Refusal> {
-    let n = n as usize;
+/// Packing's 4, 5, 6 and 7 to 10.
+fn test_packing(hold: u8, n: u16, parts: &Parts) -> Result<(), Refusal> {
     if !is_hold(hold) {
         return Err(refusals::HOLD);
     }
-    if n == 0 || n > MOST_LEAVES {
-        return Err(refusals::SIZE);
-    }
+    let n = leaves(n)?;
     let rows_fit = parts.left.len() == 2 * (n - 1) && parts.right.len() == 2 * (n - 1);
     let layouts_fit = parts.left_layout.len() == n - 1 && parts.right_layout.len() == n - 1;
     if !rows_fit || !layouts_fit || parts.links.len() != n {
@@ -242,8 +240,7 @@ fn test_packing(hold: u8, n: u16, parts: &Parts) -> Result<Record, Refusal> {
     record.links[..n].copy_from_slice(parts.links);
     record.layouts[0][..n - 1].copy_from_slice(parts.left_layout);
     record.layouts[1][..n - 1].copy_from_slice(parts.right_layout);
-    record.test_parts()?;
-    Ok(record)
+    record.test_parts()
 }
 
 /// The five buffers that unpacking writes.

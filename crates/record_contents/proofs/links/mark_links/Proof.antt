@@ -5,7 +5,7 @@ use native.Mathlib.Omega.{arith}
 use lib.ListN.{take}
 use Rattle.record_contents.specs.Marks.{markingAll}
 use Rattle.record_contents.proofs.Marks.{marking-last}
-use Rattle.record_fields.proofs.Stores.{take-more}
+use Rattle.work_trees.proofs.Stores.{take-more}
 use borrow.Author.Needs.{needs}
 use Rattle.record_contents.proofs.links.mark_links.Statement.{statement}
 use Rattle.record_contents.proofs.links.mark_links.Tie as tie
@@ -41,7 +41,7 @@ loop-again c =
     let l = c .before .before .before .before .loop in
     let seen = s .seen .now in
     let passed = take (l .i) (s .links .now) in
-    let next = take-more (s .links .now) (l .i) (omega arith) in (
+    let next = take-more (s .links .now) (l .i) 0 (omega arith) in (
       omega arith,
       c .mark-link .ensures
           ∙ rw (l .inv .1) (sym (marking-last (s .n) passed seen _))

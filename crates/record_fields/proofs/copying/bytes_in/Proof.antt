@@ -4,7 +4,7 @@ use mathlib.Core.Path.{_≡_, refl, ap, _∙_}
 use native.Mathlib.Omega.{arith}
 use lib.ListN.{length, length-set, take}
 use lib.Seq.{sets, take-all}
-use Rattle.record_fields.proofs.Stores.{store-entry}
+use Rattle.work_trees.proofs.Stores.{store-entry}
 use borrow.Author.Needs.{needs}
 use Rattle.record_fields.proofs.copying.bytes_in.Statement.{statement}
 use Rattle.record_fields.proofs.copying.bytes_in.Tie as tie
@@ -38,7 +38,7 @@ loop-again c =
     let s = c .before .before .before in
     let l = c .before .before .loop in
     let a = s .args in
-    let stored = store-entry (a .list .now) (a .out .now) (a .at) (l .i) (a .at + l .i) refl (omega arith) in
+    let stored = store-entry (a .list .now) (a .out .now) (a .at) (l .i) (a .at + l .i) 0 refl (omega arith) in
     (omega arith, simp length-set (l .inv .1), rw (l .inv .2) stored)
 
 same-length : tie.Need-same-length Inv-loop μ-loop

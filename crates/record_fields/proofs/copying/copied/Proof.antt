@@ -4,7 +4,7 @@ use mathlib.Core.Path.{_≡_, ap, _∙_}
 use native.Mathlib.Omega.{arith}
 use lib.ListN.{length, length-set, take}
 use lib.Seq.{sets, take-all}
-use Rattle.record_fields.proofs.Stores.{store-entry}
+use Rattle.work_trees.proofs.Stores.{store-entry}
 use borrow.Author.Needs.{needs}
 use Rattle.record_fields.proofs.copying.copied.Statement.{statement}
 use Rattle.record_fields.proofs.copying.copied.Tie as tie
@@ -40,7 +40,7 @@ loop-again : tie.Need-loop-again Inv-loop μ-loop
 loop-again c =
     let s = c .before .before .before in
     let l = c .before .before .loop in
-    let stored = store-entry (s .args .list .now) (s .args .out .now) 0 (l .i) (l .i) (omega arith) (omega arith) in
+    let stored = store-entry (s .args .list .now) (s .args .out .now) 0 (l .i) (l .i) 0 (omega arith) (omega arith) in
     (omega arith, simp length-set (l .inv .1), rw (l .inv .2) stored)
 
 same-length : tie.Need-same-length Inv-loop μ-loop

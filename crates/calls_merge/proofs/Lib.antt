@@ -1,0 +1,2 @@
+pub mod TableRead
+pub mod SideWritten

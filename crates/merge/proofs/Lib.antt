@@ -1,0 +1,4 @@
+pub mod Entries
+pub mod Twice
+pub mod Tables
+pub mod TreeRule
