@@ -29,7 +29,7 @@ fn show(call: Call, line: &[u8], s: &[u8], xs: &mut [u16]) {
         Call::Entanglement => showing::entanglement(s),
         Call::Better => showing::better(line, s, xs, false),
         Call::BetterCheck => showing::better(line, s, xs, true),
-        Call::Unpack => desk_parts::unpack(line, s),
+        Call::Unpack => desk_parts::unpack(line, s, xs),
         Call::NewickRead => desk_newick::newick_read(line, s, xs),
         Call::NewickWrite => desk_newick::newick_write(line, s),
         _ => no_call(),
