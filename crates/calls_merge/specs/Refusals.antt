@@ -5,10 +5,9 @@ use mathlib.Core.List.{List}
 use lib.Dec.{eqb, ltb}
 use lib.IntN.{ℤ}
 use lib.ListN.{length}
-use Rattle.tanglegram.specs.Run.{Side}
-use Rattle.tanglegram.specs.Table.{pick}
 use Rattle.merge.specs.Tables.{tableFor, someNone, twice}
 use Rattle.record_fields.specs.Fields.{sizeOf, parts}
+use Rattle.record_fields.specs.Meaning.{rowsOn}
 use Rattle.record_fields.specs.Refusals.{_when_else_, orElse, noSize, refusal}
 use Rattle.record_arrays.specs.Sides.{isSide, sideOf}
 
@@ -23,13 +22,10 @@ mergeReadRefusal n table out =
     else 14 when ltb (length out) (2 * (n - 1))
     else 0
 
--- The rows of a side of a record, as they are given; the table that says them.
-abbrev pub givenRows : List ℕ → Side → List ℕ
-givenRows s side = pick (parts s .left-rows) (parts s .right-rows) side
-
+-- The table that says the rows of a side of a record, as they are given.
 unfoldable pub writtenTable : List ℕ → ℕ → List ℤ
 unfolding tableFor
-writtenTable s side = tableFor (sizeOf s) (givenRows s (sideOf side))
+writtenTable s side = tableFor (sizeOf s) (rowsOn (parts s) (sideOf side))
 
 unfoldable pub mergeWriteRefusal : List ℕ → ℕ → List ℤ → ℕ
 unfolding isSide refusal

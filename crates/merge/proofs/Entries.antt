@@ -2,14 +2,14 @@
 use Prim.Native.Nat.{ℕ, zero, suc, _+_, _-_, _≤_, _<_}
 use mathlib.Core.Path.{_≡_, refl, ap}
 use mathlib.Core.Logic.{_≢_, _⊎_, inl, inr}
-use mathlib.Core.Bool.{Bool, true, false, _||_}
+use mathlib.Core.Bool.{Bool, true, false, _||_, or-true}
 use native.Mathlib.Decide.{decLe, ℕ-discrete}
 use native.Mathlib.Omega.{arith}
 use borrow.Author.Tests.{le-leb, lt-leb, leb-true, leb-false, eqb-true, eqb-false, eq-eqb, ne-eqb, lt-ltb, le-ltb}
 use lib.Dec.{eqb, leb, ltb}
 use lib.IntN.{ℤ, pos, negsuc}
 use Rattle.tanglegram.proofs.Bools.{or-neither}
-use Rattle.merge.specs.Entries.{Names, leaf, row, namedBy, entryFor, namesNone}
+use Rattle.merge.specs.Entries.{Names, leaf, row, NamesNone, zero-entry, no-leaf, no-earlier-row, namedBy, entryFor, namesNone}
 
 -- ---- what an entry names is one object
 
@@ -55,6 +55,22 @@ module _ (n i : ℕ) (some : 1 ≤ i) where
       go (yes d) = rw (le-leb (suc k) n d) (lt-leb n k (omega arith))
       go (no d) =
           rw (lt-leb (suc k) n (omega arith), ne-eqb (suc k - n) 0 (omega arith)) (lt-leb i (suc k - n) (omega arith))
+
+-- the test is what its words mean
+pub none-tested : (n i : ℕ) {e : ℤ} → NamesNone n i e → namesNone n i e ≡ true
+unfolding namesNone
+none-tested n i zero-entry = refl
+none-tested n i (no-leaf {a = a} h) = le-leb n a (omega arith)
+none-tested n i (no-earlier-row {j = j} h) = rw (le-leb i j h) (or-true (eqb j 0))
+
+pub tested-none : (n i : ℕ) (e : ℤ) → namesNone n i e ≡ true → NamesNone n i e
+unfolding namesNone
+tested-none n i (pos j) h = go (eqb j 0) refl h
+  where
+    go : (b : Bool) → eqb j 0 ≡ b → (b || leb i j) ≡ true → NamesNone n i (pos j)
+    go true z t = rw (eqb-true j 0 z) zero-entry
+    go false z t = no-earlier-row (leb-true i j t)
+tested-none n i (negsuc a) h = let l = leb-true n a h in no-leaf {a = a} (omega arith)
 
 -- an earlier row's entry may stand in a later row too
 pub none-later : (n i m : ℕ) (e : ℤ) → i ≤ m → namesNone n i e ≡ false → namesNone n m e ≡ false

@@ -2,7 +2,7 @@
 use Prim.Native.Nat.{ℕ, zero, suc, pred, _+_, _-_, _*_, _≤_, _<_}
 use mathlib.Core.Path.{_≡_, refl, sym, ap, _∙_}
 use mathlib.Core.Logic.{_⊎_, inl, inr}
-use mathlib.Core.Bool.{Bool, false}
+use mathlib.Core.Bool.{Bool, true, false, _||_, true≢false}
 use mathlib.Core.List.{List}
 use native.Mathlib.Decide.{ℕ-discrete}
 use native.Mathlib.Omega.{arith}
@@ -13,9 +13,9 @@ use Rattle.tanglegram.specs.Lists.{range}
 use Rattle.tanglegram.specs.Tree.{Rule}
 use Rattle.tanglegram.proofs.Bools.{or-neither}
 use Rattle.work_trees.specs.Rows.{upper, lower}
-use Rattle.merge.specs.Entries.{Names, namedBy, entryFor, namesNone}
-use Rattle.merge.specs.Tables.{rowsIn, tableFor, upperEntry, lowerEntry, any, rowNone, someNone}
-use Rattle.merge.proofs.Entries.{names-some, none-later, entry-zero, entry-back, named-back}
+use Rattle.merge.specs.Entries.{Names, NamesNone, namedBy, entryFor, namesNone}
+use Rattle.merge.specs.Tables.{rowsIn, tableFor, upperEntry, lowerEntry, any, rowNone, someNone, EntryNone}
+use Rattle.merge.proofs.Entries.{names-some, none-tested, tested-none, none-later, entry-zero, entry-back, named-back}
 
 -- ---- places
 
@@ -67,6 +67,16 @@ none-any p k zero h = refl
 none-any p k (suc m) h =
     rw (h k (omega arith) (omega arith)) (none-any p (suc k) m (λ i a b. h i (omega arith) (omega arith)))
 
+pub any-some : (p : ℕ → Bool) (k m : ℕ) → any p (range k m) ≡ true → (i : ℕ) × (k ≤ i) × (i < k + m) × (p i ≡ true)
+unfolding any range
+any-some p k zero h = absurd (true≢false (sym h))
+any-some p k (suc m) h = go (p k) refl (any-some p (suc k) m)
+  where
+    go : (b : Bool) → p k ≡ b → (any p (range (suc k) m) ≡ true → (i : ℕ) × (suc k ≤ i) × (i < suc k + m) × (p i ≡ true)) →
+        (i : ℕ) × (k ≤ i) × (i < k + suc m) × (p i ≡ true)
+    go true e later = (k, omega arith, omega arith, e)
+    go false e later = let r = later (rw e at h) in (r .0, omega (arith, r .1), omega (arith, r .2), r .3)
+
 -- ---- the entries of rows
 
 module _ (n : ℕ) (table : List ℤ) where
@@ -99,6 +109,30 @@ module _ (n : ℕ) (table : List ℤ) where
         by-rows n (λ k. Names n (getD table k (pos 0)) (namedBy n (getD table k (pos 0))))
         (λ i p q. let r = row-named i p q in
         (names-some n i p (upperEntry table i) (r .0) .0, names-some n i p (lowerEntry table i) (r .1) .0))
+
+-- an entry that names none is found
+module _ (n : ℕ) (table : List ℤ) where
+  pub none-where : someNone n table ≡ true → EntryNone n table
+  unfolding someNone
+  none-where h = go (any-some (rowNone n table) 1 (pred n) h)
+    where
+      side : (i : ℕ) (b : Bool) → namesNone n i (upperEntry table i) ≡ b → (b || namesNone n i (lowerEntry table i)) ≡ true →
+          NamesNone n i (upperEntry table i) ⊎ NamesNone n i (lowerEntry table i)
+      side i true e t = inl (tested-none n i (upperEntry table i) e)
+      side i false e t = inr (tested-none n i (lowerEntry table i) t)
+
+      go : (i : ℕ) × (1 ≤ i) × (i < 1 + pred n) × (rowNone n table i ≡ true) → EntryNone n table
+      go (i, p, q, t) = record { row = i; is-row = (p, omega arith); none = side i (namesNone n i (upperEntry table i)) refl t }
+
+  pub named-nowhere : someNone n table ≡ false → EntryNone n table → ⊥
+  named-nowhere h e = no (e .none)
+    where
+      r : (namesNone n (e .row) (upperEntry table (e .row)) ≡ false) × (namesNone n (e .row) (lowerEntry table (e .row)) ≡ false)
+      r = row-named n table h (e .row) (e .is-row .0) (e .is-row .1)
+
+      no : NamesNone n (e .row) (upperEntry table (e .row)) ⊎ NamesNone n (e .row) (lowerEntry table (e .row)) → ⊥
+      no (inl x) = true≢false (sym (none-tested n (e .row) x) ∙ r .0)
+      no (inr x) = true≢false (sym (none-tested n (e .row) x) ∙ r .1)
 
 -- the table has the entries for the objects
 pub table-entry : (n : ℕ) (rows : List ℕ) (k : ℕ) → getD (tableFor n rows) k (pos 0) ≡ entryFor n (getD rows k 0)

@@ -10,7 +10,7 @@ use lib.Dec.{eqb}
 use lib.IntN.{ℤ, pos, negsuc}
 use lib.ListN.{length, getD}
 use Rattle.tanglegram.proofs.Bools.{or-neither}
-use Rattle.merge.specs.Tables.{same, amongEntries, twice}
+use Rattle.merge.specs.Tables.{same, amongEntries, twice, EntryTwice}
 
 -- ---- the same entry
 
@@ -42,6 +42,34 @@ among-none x (y ∷ ys) h = go (same x y) refl (among-none x ys (λ q l. h (suc 
     go false e r = r
 
 -- ---- two places
+
+among-where : (x : ℤ) (ys : List ℤ) → amongEntries x ys ≡ true → (q : ℕ) × (q < length ys) × (x ≡ getD ys q (pos 0))
+unfolding amongEntries
+among-where x [] h = absurd (true≢false (sym h))
+among-where x (y ∷ ys) h = go (same x y) refl (among-where x ys)
+  where
+    go : (b : Bool) → same x y ≡ b → (amongEntries x ys ≡ true → (q : ℕ) × (q < length ys) × (x ≡ getD ys q (pos 0))) →
+        (q : ℕ) × (q < suc (length ys)) × (x ≡ getD (y ∷ ys) q (pos 0))
+    go true e later = (0, omega arith, same-equal x y e)
+    go false e later = let r = later (rw e at h) in (suc (r .0), omega (arith, r .1), r .2)
+
+pub twice-where : (table : List ℤ) → twice table ≡ true → EntryTwice table
+unfolding twice
+twice-where [] h = absurd (true≢false (sym h))
+twice-where (x ∷ xs) h = go (amongEntries x xs) refl (twice-where xs)
+  where
+    go : (b : Bool) → amongEntries x xs ≡ b → (twice xs ≡ true → EntryTwice xs) → EntryTwice (x ∷ xs)
+    go true e later =
+        let r = among-where x xs e in
+        record { place = 0; later = suc (r .0); apart = (omega arith, omega (arith, r .1)); alike = r .2 }
+    go false e later =
+        let r = later (rw e at h) in
+        record {
+          place = suc (r .place);
+          later = suc (r .later);
+          apart = (omega (arith, r .apart .0), omega (arith, r .apart .1));
+          alike = r .alike;
+        }
 
 pub twice-apart : (table : List ℤ) → twice table ≡ false → (p q : ℕ) → p < q → q < length table →
     getD table p (pos 0) ≢ getD table q (pos 0)

@@ -20,7 +20,12 @@ namedBy n (negsuc a) = cond (ltb a n) (suc a) 0
 unfoldable pub entryFor : ℕ → ℕ → ℤ
 entryFor n k = cond (leb k n) (negℤ (pos k)) (pos (k - n))
 
--- An entry of row i is zero, or names no leaf, or no earlier row.
+-- An entry of row i is zero, or names no leaf, or no earlier row; and the same as a test.
+pub data NamesNone (n i : ℕ) : ℤ → Type 0 where
+  zero-entry : NamesNone n i (pos 0)
+  no-leaf : {a : ℕ} → n < suc a → NamesNone n i (negsuc a)
+  no-earlier-row : {j : ℕ} → i ≤ j → NamesNone n i (pos j)
+
 unfoldable pub namesNone : ℕ → ℕ → ℤ → Bool
 namesNone n i (pos j) = eqb j 0 || leb i j
 namesNone n i (negsuc a) = leb n a

@@ -20,6 +20,9 @@ use Rattle.newick.specs.Reading.{textRead}
 use Rattle.newick.specs.Rows.{rowsOf}
 use Rattle.newick.specs.Writing.{sentenceOf, textOf}
 use Rattle.calls_newick.specs.Refusals.{keepsGrammar, said, isNumbered, newickReadRefusal, writtenText}
+use Rattle.merge.specs.Entries.{namedBy, entryFor, namesNone}
+use Rattle.merge.specs.Tables.{rowsIn, tableFor, any, someNone, amongEntries, twice}
+use Rattle.calls_merge.specs.Refusals.{mergeReadRefusal, writtenTable}
 use Rattle.promises.specs.Examples.{Examples}
 
 pub examples : Examples
@@ -27,4 +30,5 @@ unfolding order write leaves deep object count place range over across pairs cho
     used among first badRow numbers split partsOf packed all isMark isHold noSize breaksRule oneToOne isLayout contentsRefusal
     headingRefusal refusal rowFor isSide holds noAllowance freeRefusal runRefusal entangled
     textRead leafNumbers rowsOf keepsGrammar said isNumbered newickReadRefusal sentenceOf textOf writtenText
-examples = record { table = refl; texts-read = refl; texts-written = refl }
+    namedBy entryFor namesNone rowsIn tableFor any someNone amongEntries twice mergeReadRefusal writtenTable
+examples = record { table = refl; texts-read = refl; texts-written = refl; tables-read = refl; tables-written = refl }

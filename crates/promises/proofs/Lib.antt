@@ -11,6 +11,7 @@ pub mod Demand3
 pub mod Entanglement
 pub mod HandsTwice
 pub mod Newick
+pub mod Merge
 pub mod Examples
 pub mod Tried
 pub mod Promises

@@ -26,8 +26,8 @@ use Rattle.newick.specs.Writing.{sentenceOf, textOf}
 use Rattle.newick.proofs.Grammar.{read-spells, spells-read, spells-one}
 use Rattle.newick.proofs.Rows.{rows-rule, rows-tree, rows-order}
 use Rattle.newick.proofs.Written.{Writable, written-leaves, written-spells, written-again, written-sets}
-use Rattle.record_fields.specs.Fields.{sizeOf, partsOf}
-use Rattle.record_fields.specs.Meaning.{treeIn, tableOf, layoutsOf}
+use Rattle.record_fields.specs.Fields.{sizeOf, parts, partsOf}
+use Rattle.record_fields.specs.Meaning.{treeIn, rowsOn, tableOf, layoutsOf}
 use Rattle.record_fields.specs.Refusals.{oneToOne}
 use Rattle.record_fields.proofs.Refused.{lent-accepted, zero-accepted}
 use Rattle.record_fields.proofs.Tests.{one-to-one-perm}
@@ -41,7 +41,7 @@ use Rattle.calls_newick.specs.Calls.{NewickReads, NewickWrites}
 use Rattle.calls_newick.proofs.Outcomes.{reading-18, reading-19, reading-14, reading-0, writing-good}
 use Rattle.calls_newick.proofs.SideWritten.{text-long, text-fits}
 use Rattle.calls_newick.proofs.TextRead.{length-rows-of}
-use Rattle.promises.specs.Newick.{Numbered, AsGiven, ReadAs, Reading, rowsOn, Writing, ReadBack}
+use Rattle.promises.specs.Newick.{Numbered, AsGiven, ReadAs, Reading, Writing, ReadBack}
 use Rattle.promises.specs.Newick as Newick
 
 -- ---- the tests say what their words mean
@@ -205,7 +205,7 @@ module _ (text out : List ℕ) (answer : NewickRead) (out′ : List ℕ) (o : Ne
 -- ---- writing
 
 -- the tree of a side is that of its rows
-side-tree : (s : List ℕ) (side : Side) → tableOf s .tree side ≡ treeIn (sizeOf s) (rowsOn s side)
+side-tree : (s : List ℕ) (side : Side) → tableOf s .tree side ≡ treeIn (sizeOf s) (rowsOn (parts s) side)
 unfolding partsOf
 side-tree s left = refl
 side-tree s right = refl
@@ -286,7 +286,7 @@ module _ (r : List ℕ) (side : ℕ) (g : RecordOver r (sizeOf r)) where
   tree-read : treeIn (leafCount S) (rowsOf S) ≡ treeFrom 0 S
   tree-read = rows-tree S (numbered .once-each)
 
-  again : (r′ : List ℕ) (side′ : ℕ) → sizeOf r′ ≡ leafCount S → rowsOn r′ (sideOf side′) ≡ rowsOf S →
+  again : (r′ : List ℕ) (side′ : ℕ) → sizeOf r′ ≡ leafCount S → rowsOn (parts r′) (sideOf side′) ≡ rowsOf S →
       AsGiven (layout (layoutsOf r′) (sideOf side′)) → writtenText r′ side′ ≡ writtenText r side
   unfolding writtenText
   again r′ side′ e rows given =

@@ -34,4 +34,6 @@ outcomes = record {
   better-check = λ s side first second a b p q. equal-to-one (p .answers) (q .answers);
   newick-read = λ text out a b x y p q. (equal-to-one (p .answers) (q .answers), equal-to-one (p .afterwards) (q .afterwards));
   newick-write = λ s side out a b x y p q. (equal-to-one (p .answers) (q .answers), equal-to-one (p .afterwards) (q .afterwards));
+  merge-read = λ n table out a b x y p q. (equal-to-one (p .answers) (q .answers), equal-to-one (p .afterwards) (q .afterwards));
+  merge-write = λ s side out a b x y p q. (equal-to-one (p .answers) (q .answers), equal-to-one (p .afterwards) (q .afterwards));
 }

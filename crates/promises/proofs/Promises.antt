@@ -6,6 +6,7 @@ use Rattle.promises.proofs.Demand3.{demand3}
 use Rattle.promises.proofs.Entanglement.{entanglement}
 use Rattle.promises.proofs.HandsTwice.{hands-twice}
 use Rattle.promises.proofs.Newick.{newick}
+use Rattle.promises.proofs.Merge.{merge}
 use Rattle.promises.proofs.Examples.{examples}
 use Rattle.promises.proofs.Tried.{tried}
 
@@ -17,6 +18,7 @@ promises = record {
   entanglement = entanglement;
   hands-twice = hands-twice;
   newick = newick;
+  merge = merge;
   examples = examples;
   tried = tried;
 }

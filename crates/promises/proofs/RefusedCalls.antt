@@ -25,6 +25,7 @@ use Rattle.calls_better.specs.Calls.{betterPart, betterWhich}
 use Rattle.newick.specs.Sentence.{leafCount}
 use Rattle.newick.specs.Rows.{rowsOf}
 use Rattle.calls_newick.specs.Refusals.{said, newickReadRefusal, writtenText, newickWriteRefusal}
+use Rattle.calls_merge.specs.Refusals.{mergeReadRefusal, mergeWriteRefusal}
 use Rattle.promises.specs.Outcomes.{UnpackOutcome, UnpacksTo}
 use Rattle.promises.specs.RefusedCalls as RefusedCalls
 use Rattle.promises.specs.RefusedCalls.{NothingUnpacked}
@@ -96,6 +97,10 @@ refused-calls = record {
         o .afterwards ∙ sym (lent-refused k (writtenText s side) out z),
         ap (λ a. a .length) (o .answers) ∙ sym (zero-refused k (length (writtenText s side)) z),
       );
+  merge-read = λ n table out answer out′ o h.
+      o .afterwards ∙ rw (ne-eqb (mergeReadRefusal n table out) 0 (λ z. h (ap (λ a. a .number) (o .answers) ∙ z))) refl;
+  merge-write = λ s side out answer out′ o h.
+      o .afterwards ∙ rw (ne-eqb (mergeWriteRefusal s side out) 0 (λ z. h (ap (λ a. a .number) (o .answers) ∙ z))) refl;
 }
   where
     no-entanglement : (answer : Entangled) → entangledRefusal answer .number ≢ 0 →

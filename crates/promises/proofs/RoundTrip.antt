@@ -48,7 +48,7 @@ came-to s left right links left-layout right-layout o u z =
     }
 
 -- what packing writes into the first places of its buffer
-left-packed : (P : Parts) (out : List ℕ) (answer : Refusal) (after : List ℕ) → Packs P out answer after → packRefusal P out ≡ 0 →
+pub left-packed : (P : Parts) (out : List ℕ) (answer : Refusal) (after : List ℕ) → Packs P out answer after → packRefusal P out ≡ 0 →
     (m : ℕ) → length (packed P) ≡ m → take m after ≡ packed P
 left-packed P out answer after p e m l =
     ap (take m) (p .afterwards ∙ sym (lent-accepted (packRefusal P out) (packed P) out e)) ∙ take-at (packed P) _ m l

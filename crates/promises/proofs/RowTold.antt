@@ -19,6 +19,7 @@ use Rattle.calls_turns.proofs.Turns.{free-own, run-own}
 use Rattle.calls_hands.proofs.HandLists.{hands-own}
 use Rattle.calls_better.proofs.Compared.{compare-own}
 use Rattle.calls_newick.proofs.Outcomes.{write-own}
+use Rattle.calls_merge.proofs.SideWritten.{merge-own}
 use Rattle.promises.specs.RowTold as RowTold
 
 -- a reading's refusal, case by case
@@ -48,4 +49,5 @@ row-told = record {
   compare = λ s side first second answer p. tells-row s (compare-own s side first second refl) (ap (λ a. a .refusal) (p .answers));
   better-check = λ s side first second answer p. tells-row s (compare-own s side first second refl) (p .answers);
   newick-write = λ s side out answer out′ p. tells-row s (write-own s side out refl) (ap (λ a. a .refusal) (p .answers));
+  merge-write = λ s side out answer out′ p. tells-row s (merge-own s side out refl) (p .answers);
 }

@@ -1,5 +1,5 @@
 -- Each wrong outcome contradicts a field of its promise, by computation.
-use Prim.Native.Nat.{ℕ, pred}
+use Prim.Native.Nat.{ℕ, pred, _-_, _*_, _<_}
 use mathlib.Core.Path.{_≡_, refl, sym, ap, _∙_}
 use mathlib.Core.Logic.{_⊎_, ⊎-elim}
 use mathlib.Core.List.{List, [], _∷_}
@@ -20,7 +20,7 @@ use Rattle.newick.specs.Reading.{broken, read, textRead}
 use Rattle.newick.specs.Rows.{rowsOf}
 use Rattle.newick.specs.Writing.{textLength}
 use Rattle.newick.proofs.Grammar.{read-spells, spells-read}
-use Rattle.record_fields.specs.Fields.{sizeOf, numbers, split, partsOf, packed}
+use Rattle.record_fields.specs.Fields.{sizeOf, parts, numbers, split, partsOf, packed}
 use Rattle.record_fields.specs.Refusals.{all, isMark, isHold, noSize, breaksRule, oneToOne, isLayout, contentsRefusal, headingRefusal}
 use Rattle.record_fields.specs.Refusals.{refusal}
 use Rattle.record_fields.specs.Meaning.{relaid}
@@ -29,9 +29,17 @@ use Rattle.calls_better.specs.Refusals.{betterRefusal}
 use Rattle.calls_better.specs.Calls.{betterWhich}
 use Rattle.promises.specs.Demand2.{FreeKeeps}
 use Rattle.promises.specs.Demand3.{countAfter}
-use Rattle.promises.specs.Examples.{recordOf}
+use Rattle.merge.specs.Entries.{Names, namedBy, namesNone}
+use Rattle.merge.specs.Tables.{rowsIn, any, someNone, amongEntries, twice}
+use Rattle.merge.proofs.Entries.{named-one}
+use Rattle.record_fields.specs.Meaning.{rowsOn}
+use Rattle.record_arrays.specs.Sides.{sideOf}
+use Rattle.calls_merge.specs.Refusals.{mergeReadRefusal}
+use Rattle.promises.specs.Cases.{recordOf, case2Freed}
+use Rattle.promises.specs.MergeExamples.{plus, example1}
+use Rattle.promises.proofs.Merge.{told-number}
 use Rattle.promises.specs.Newick.{ReadAs}
-use Rattle.promises.specs.Tried.{tied, byte2, bothBad, goodText, badText, Tried}
+use Rattle.promises.specs.Tried.{tied, byte2, bothBad, goodText, badText, nines, twiceThenZero, ownRow, leafTwice, Tried}
 
 -- the record is accepted, and with the byte 2 it is refused
 refusals : (refusal tied ≡ 0) × (refusal byte2 ≡ 10)
@@ -92,6 +100,25 @@ ten-bytes : textLength (sizeOf tied) ≡ 10
 unfolding textLength numbers split partsOf packed range
 ten-bytes = refl
 
+-- the numbers of the tables, and the first row of the good one
+numbers-told : (mergeReadRefusal 4 example1 nines ≡ 0) × (mergeReadRefusal 3 twiceThenZero nines ≡ 20)
+    × (mergeReadRefusal 2 ownRow nines ≡ 20) × (mergeReadRefusal 3 leafTwice nines ≡ 21)
+unfolding range noSize namesNone any someNone amongEntries twice mergeReadRefusal
+numbers-told = (refl, refl, refl, refl)
+
+rows-begin : getD (rowsIn 4 example1) 0 0 ≡ 1
+unfolding namedBy rowsIn
+rows-begin = refl
+
+-- row 2 of case 2's left begins with leaf 3, which plus 1 does not name
+row-2 : Names (sizeOf (recordOf case2Freed)) (plus 1) (getD (rowsOn (parts (recordOf case2Freed)) (sideOf 1)) 2 0) → _≡_ {A = ℕ} 5 3
+unfolding namedBy numbers split partsOf packed range
+row-2 k = named-one k
+
+room : 2 < 2 * (sizeOf (recordOf case2Freed) - 1)
+unfolding numbers split partsOf packed range
+room = omega arith
+
 pub tried : Tried
 unfolding betterWhich
 tried = record {
@@ -116,5 +143,12 @@ tried = record {
   reads-nothing = λ k.
       let e = first-row _ _ (k .read-as refl goodSentence (read-spells goodText goodSentence [] good-read .1)) in omega (arith, e);
   line-feed-written = λ out out′ k. let e = k .long in omega (arith, e, ten-bytes);
+  refuses-good-table = λ k. let e = told-number _ _ _ (k .exactly 20 .0 refl) in omega (arith, e, numbers-told .0);
+  twice-before-zero = λ k. let e = told-number _ _ _ (k .exactly 21 .0 refl) in omega (arith, e, numbers-told .1);
+  own-row-accepted = λ out k. let e = told-number _ _ _ (k .exactly 0 .0 refl) in omega (arith, e, numbers-told .2);
+  leaf-in-two-rows = λ out k. let e = told-number _ _ _ (k .exactly 0 .0 refl) in omega (arith, e, numbers-told .3);
+  signs-exchanged = λ k. let e = ap (λ r. getD r 0 0) (k .rows-read refl) in omega (arith, e, rows-begin);
+  no-rows-written = λ k. let e = ap (λ r. getD r 0 0) (k .rows-read refl) in omega (arith, e, rows-begin);
+  turned-over-in-table = λ out k. let e = row-2 (k .names-rows 2 room) in omega (arith, e);
   part-elsewhere = λ s side first second first-at second-at part part-at e ne b. ne (b .begins ∙ rw e refl);
 }

@@ -1,5 +1,6 @@
 -- The list of examples (`tanglegram`), over the calls' definitions: each line's case is a record of bytes with hold `N`, and what the
--- calls answer of it is what the line shows; those of example 9 are refused. And texts, read into a buffer, and written of a case's side.
+-- calls answer of it is what the line shows; those of example 9 are refused. And texts and merge tables, read into a buffer, and written
+-- of a case's side.
 use Prim.Native.Nat.{ℕ, suc}
 use mathlib.Core.Path.{_≡_}
 use mathlib.Core.Bool.{Bool, true, false, cond, _&&_}
@@ -12,7 +13,6 @@ use Rattle.tanglegram.specs.Table.{orderOf, crossings}
 use Rattle.tanglegram.specs.Examples.{Case, Shown, Line, bytesOf, caseOwn, case2, oneLeaf, examples}
 use Rattle.newick.specs.Sentence.{leafCount}
 use Rattle.newick.specs.Rows.{rowsOf}
-use Rattle.record_fields.specs.Fields.{given, packed}
 use Rattle.record_fields.specs.Refusals.{refusal}
 use Rattle.record_fields.specs.declared.refusal.Refusal.{Refusal}
 use Rattle.record_fields.specs.Refused.{refusedRow, accepted, lent, orZero}
@@ -23,12 +23,11 @@ use Rattle.calls_show.specs.Calls.{entangled, displacedIn, worstIn, ratioIn}
 use Rattle.calls_turns.specs.Refusals.{freeRefusal, runRefusal}
 use Rattle.calls_turns.specs.Calls.{freedLayouts, ranTo}
 use Rattle.calls_newick.specs.Refusals.{said, newickReadRefusal, writtenText}
+use Rattle.merge.specs.Tables.{rowsIn}
+use Rattle.calls_merge.specs.Refusals.{mergeReadRefusal, writtenTable}
 use Rattle.promises.specs.Demand3.{countAfter}
-
--- A case's record: hold `N`.
-abbrev pub recordOf : Case → List ℕ
-recordOf g =
-    packed (given 78 (g .size) (g .left-rows) (g .right-rows) (g .links) (g .layouts .left-bytes) (g .layouts .right-bytes))
+use Rattle.promises.specs.Cases.{recordOf, case2Freed}
+use Rattle.promises.specs.MergeExamples.{TableLine, tableExamples, tablesWritten}
 
 -- What the calls' definitions say of a case's record: the refusals, with their rows, of reading it, of freeing its left and of running it;
 -- then what a line shows, which is nothing but the number and the row where it is refused.
@@ -136,17 +135,6 @@ pub record WrittenLine : Type 0 where
 abbrev writtenLine : Case → ℕ → List ℕ → WrittenLine
 writtenLine g side text = record { from = g; side = side; text = text }
 
--- Examples 1 to 4 with the layout that freeing the left gives.
-abbrev case2Freed : Case
-case2Freed = record {
-  size = case2 .size;
-  left-rows = case2 .left-rows;
-  right-rows = case2 .right-rows;
-  links = case2 .links;
-  layouts = bytesOf (0 ∷ 1 ∷ 1 ∷ []) (0 ∷ 0 ∷ 0 ∷ []);
-  allowance = case2 .allowance;
-}
-
 abbrev pub writtenExamples : List WrittenLine
 writtenExamples =
     -- example 1's left, its right, and its left as freeing leaves it: `(4,(3,(1,2)));`, `((1,2),(3,4));`, `(((1,2),3),4);`
@@ -157,8 +145,25 @@ writtenExamples =
     ∷ writtenLine (oneLeaf 2) 1 (49 ∷ 59 ∷ [])
     ∷ []
 
--- All examples: the customer's list, texts read, and texts written.
+-- ---- merge tables
+
+-- What reading a table comes to, as a line shows it.
+abbrev tableRead : TableLine → TableLine
+tableRead l =
+    let k = mergeReadRefusal (l .size) (l .table) (l .buffer) in
+    record {
+      size = l .size;
+      table = l .table;
+      buffer = l .buffer;
+      refused = k;
+      afterwards = lent k (rowsIn (l .size) (l .table)) (l .buffer);
+    }
+
+-- All examples: the customer's list; texts and tables read, and written.
 pub record Examples : Type 0 where
   pub table : map (λ l. called (l .from)) examples ≡ map told examples
   pub texts-read : map (λ l. readTo (l .text) (l .buffer)) textExamples ≡ map (λ l. l .comes-to) textExamples
   pub texts-written : map (λ l. writtenText (recordOf (l .from)) (l .side)) writtenExamples ≡ map (λ l. l .text) writtenExamples
+  pub tables-read : map tableRead tableExamples ≡ tableExamples
+  pub tables-written :
+      map (λ l. writtenTable (recordOf (l .from)) (l .side)) tablesWritten ≡ map (λ l. l .table) tablesWritten

@@ -11,8 +11,7 @@ use lib.ListN.{length, take, drop}
 use Rattle.tanglegram.specs.Lists.{Each, range}
 use Rattle.tanglegram.specs.Tree.{Rule}
 use Rattle.tanglegram.specs.Order.{order}
-use Rattle.tanglegram.specs.Run.{Side}
-use Rattle.tanglegram.specs.Table.{pick, layout}
+use Rattle.tanglegram.specs.Table.{layout}
 use Rattle.work_trees.specs.Rows.{upper, lower}
 use Rattle.newick.specs.Sentence.{Sentence, leafNumbers, leafCount}
 use Rattle.newick.specs.Grammar.{Spells}
@@ -20,7 +19,7 @@ use Rattle.newick.specs.Rows.{rowsOf}
 use Rattle.newick.specs.Same.{SameSets}
 use Rattle.newick.specs.Writing.{sentenceOf, textOf, textLength}
 use Rattle.record_fields.specs.Fields.{sizeOf, parts}
-use Rattle.record_fields.specs.Meaning.{treeIn, tableOf, layoutsOf}
+use Rattle.record_fields.specs.Meaning.{treeIn, rowsOn, tableOf, layoutsOf}
 use Rattle.record_arrays.specs.Sides.{sideOf}
 use Rattle.record_arrays.specs.Shown.{shownOrder}
 use Rattle.calls_newick.specs.declared.answers.NewickRead.{NewickRead}
@@ -66,10 +65,6 @@ pub record Reading (text out : List ℕ) (answer : NewickRead) (out′ : List �
 
 -- ---- writing
 
--- A side's rows in a record, upper then lower.
-abbrev pub rowsOn : List ℕ → Side → List ℕ
-rowsOn s side = pick (parts s .left-rows) (parts s .right-rows) side
-
 pub record Writing (s : List ℕ) (side : ℕ) (out : List ℕ) (answer : NewickWritten) (out′ : List ℕ) : Type 0 where
   -- "Write a side's present layout as text without lengths, ending at the semicolon."
   pub present-layout : take (answer .length) out′ ≡ textOf (sentenceOf (layout (layoutsOf s) (sideOf side)) (tableOf s .tree (sideOf side)))
@@ -89,7 +84,7 @@ pub record ReadBack (r : List ℕ) (side : ℕ) (text : List ℕ) (n : ℕ) (row
   pub same-sets : SameSets (tableOf r .tree (sideOf side)) (treeIn n rows)
   -- "writing it again gives the same text": any record with these rows on a side, all bytes 0.
   pub same-text : (r′ : List ℕ) (side′ : ℕ) (out : List ℕ) (answer : NewickWritten) (out′ : List ℕ) →
-      NewickWrites r′ side′ out answer out′ → answer .refusal .number ≡ 0 → sizeOf r′ ≡ n → rowsOn r′ (sideOf side′) ≡ rows →
+      NewickWrites r′ side′ out answer out′ → answer .refusal .number ≡ 0 → sizeOf r′ ≡ n → rowsOn (parts r′) (sideOf side′) ≡ rows →
       AsGiven (layout (layoutsOf r′) (sideOf side′)) →
       take (answer .length) out′ ≡ text
 

@@ -3,6 +3,7 @@
 use Prim.Native.Nat.{ℕ}
 use mathlib.Core.Path.{_≡_}
 use mathlib.Core.List.{List}
+use lib.IntN.{ℤ}
 use Rattle.record_fields.specs.Fields.{Parts}
 use Rattle.record_fields.specs.Fixes.{Fixes, FixesBoth}
 use Rattle.record.specs.Calls.{Checks, Reads, SetsHold}
@@ -15,6 +16,7 @@ use Rattle.calls_hands.specs.Refusals.{Hand}
 use Rattle.calls_hands.specs.Calls.{Hands}
 use Rattle.calls_better.specs.Calls.{Address, Betters, Compares, BetterChecks}
 use Rattle.calls_newick.specs.Calls.{NewickReads, NewickWrites}
+use Rattle.calls_merge.specs.Calls.{MergeReads, MergeWrites}
 
 -- What unpacking comes to: its answer, and what is in the five buffers afterwards.
 pub record UnpackOutcome : Type 0 where
@@ -52,3 +54,5 @@ pub record Outcomes : Type 0 where
   pub better-check : (s : List ℕ) (side : ℕ) (first second : List ℕ) → Fixes (BetterChecks s side first second)
   pub newick-read : (text out : List ℕ) → FixesBoth (NewickReads text out)
   pub newick-write : (s : List ℕ) (side : ℕ) (out : List ℕ) → FixesBoth (NewickWrites s side out)
+  pub merge-read : (n : ℕ) (table : List ℤ) (out : List ℕ) → FixesBoth (MergeReads n table out)
+  pub merge-write : (s : List ℕ) (side : ℕ) (out : List ℤ) → FixesBoth (MergeWrites s side out)

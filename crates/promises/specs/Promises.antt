@@ -5,6 +5,7 @@ use Rattle.promises.specs.Demand3.{Demand3}
 use Rattle.promises.specs.Entanglement.{Entanglement}
 use Rattle.promises.specs.HandsTwice.{HandsTwice}
 use Rattle.promises.specs.Newick.{Newick}
+use Rattle.promises.specs.Merge.{Merge}
 use Rattle.promises.specs.Examples.{Examples}
 use Rattle.promises.specs.Tried.{Tried}
 
@@ -22,6 +23,8 @@ pub record Promises : Type 0 where
   pub hands-twice : HandsTwice
   -- Newick text is read and refused by its grammar, and what is written is read back the same.
   pub newick : Newick
+  -- Merge tables are refused for what the tree rule refuses and for nothing else, and tables and rows are the same there and back.
+  pub merge : Merge
   -- The examples come out as the customer has them.
   pub examples : Examples
   -- Wrong outcomes are excluded.

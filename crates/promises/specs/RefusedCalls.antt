@@ -5,6 +5,7 @@ use mathlib.Core.Path.{_≡_}
 use mathlib.Core.Logic.{_≢_}
 use mathlib.Core.List.{List, []}
 use mathlib.Core.Option.{none}
+use lib.IntN.{ℤ}
 use Rattle.record_fields.specs.declared.refusal.Refusal.{Refusal}
 use Rattle.record_fields.specs.Fields.{Parts}
 use Rattle.record.specs.declared.reading.Reading.{Reading}
@@ -24,6 +25,7 @@ use Rattle.calls_better.specs.Calls.{Address, Betters, Compares}
 use Rattle.calls_newick.specs.declared.answers.NewickRead.{NewickRead}
 use Rattle.calls_newick.specs.declared.answers.NewickWritten.{NewickWritten}
 use Rattle.calls_newick.specs.Calls.{NewickReads, NewickWrites}
+use Rattle.calls_merge.specs.Calls.{MergeReads, MergeWrites}
 use Rattle.promises.specs.Outcomes.{UnpackOutcome, UnpacksTo}
 
 -- Unpacking came to nothing: hold and n are zero, and the five buffers are as found.
@@ -64,3 +66,7 @@ pub record RefusedCalls : Type 0 where
       answer .refusal .number ≢ 0 → (out′ ≡ out) × (answer .n ≡ 0)
   pub newick-write : (s : List ℕ) (side : ℕ) (out : List ℕ) (answer : NewickWritten) (out′ : List ℕ) → NewickWrites s side out answer out′ →
       answer .refusal .number ≢ 0 → (out′ ≡ out) × (answer .length ≡ 0)
+  pub merge-read : (n : ℕ) (table : List ℤ) (out : List ℕ) (answer : Refusal) (out′ : List ℕ) → MergeReads n table out answer out′ →
+      answer .number ≢ 0 → out′ ≡ out
+  pub merge-write : (s : List ℕ) (side : ℕ) (out : List ℤ) (answer : Refusal) (out′ : List ℤ) → MergeWrites s side out answer out′ →
+      answer .number ≢ 0 → out′ ≡ out

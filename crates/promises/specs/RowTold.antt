@@ -4,6 +4,7 @@
 -- (`SaysRow`, in `record_fields/specs/Told`). Better of two itself answers no refusal; its check call does.
 use Prim.Native.Nat.{ℕ}
 use mathlib.Core.List.{List}
+use lib.IntN.{ℤ}
 use Rattle.record_fields.specs.declared.refusal.Refusal.{Refusal}
 use Rattle.record_fields.specs.Fields.{Parts, parts}
 use Rattle.record_fields.specs.Told.{SaysRow}
@@ -22,6 +23,7 @@ use Rattle.calls_better.specs.declared.answers.Compared.{Compared}
 use Rattle.calls_better.specs.Calls.{Compares, BetterChecks}
 use Rattle.calls_newick.specs.declared.answers.NewickWritten.{NewickWritten}
 use Rattle.calls_newick.specs.Calls.{NewickWrites}
+use Rattle.calls_merge.specs.Calls.{MergeWrites}
 use Rattle.promises.specs.Outcomes.{UnpackOutcome, UnpacksTo}
 
 -- A refusal says the row of a record.
@@ -52,3 +54,6 @@ pub record RowTold : Type 0 where
   -- Reading a text has no record: `Newick` says that its refusals come with row 0.
   pub newick-write : (s : List ℕ) (side : ℕ) (out : List ℕ) (answer : NewickWritten) (out′ : List ℕ) → NewickWrites s side out answer out′ →
       Says s (answer .refusal)
+  -- Nor has reading a merge table, of which `Merge` says the same.
+  pub merge-write : (s : List ℕ) (side : ℕ) (out : List ℤ) (answer : Refusal) (out′ : List ℤ) → MergeWrites s side out answer out′ →
+      Says s answer

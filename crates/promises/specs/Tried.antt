@@ -3,6 +3,7 @@ use Prim.Native.Nat.{ℕ, _≤_}
 use mathlib.Core.Path.{_≡_}
 use mathlib.Core.Logic.{_≢_}
 use mathlib.Core.List.{List, [], _∷_}
+use lib.IntN.{ℤ}
 use Rattle.tanglegram.specs.Run.{left}
 use Rattle.tanglegram.specs.Examples.{bytesOf, rootsTie, gainsInTurn2, oneLeaf}
 use Rattle.record_fields.specs.Fields.{Parts, given}
@@ -17,7 +18,9 @@ use Rattle.promises.specs.HeldStays.{Keeps}
 use Rattle.promises.specs.Demand2.{FreeKeeps}
 use Rattle.promises.specs.Demand3.{RunKeeps}
 use Rattle.promises.specs.Newick.{Reading, Writing}
-use Rattle.promises.specs.Examples.{recordOf}
+use Rattle.promises.specs.Merge.{TableReading, TableWriting}
+use Rattle.promises.specs.Cases.{recordOf, case2Freed}
+use Rattle.promises.specs.MergeExamples.{minus, plus, example1}
 
 -- Example 5, whose roots tie, and the same with the left root's byte 2: not the byte that turns it over, though read as turned. The count
 -- is the same, so that only what is said of the byte excludes it.
@@ -40,6 +43,20 @@ badText = 40 ∷ 40 ∷ 49 ∷ 44 ∷ 49 ∷ 41 ∷ 44 ∷ 40 ∷ 52 ∷ 44 ∷ 
 
 abbrev pub nines : List ℕ
 nines = 9 ∷ 9 ∷ 9 ∷ 9 ∷ 9 ∷ 9 ∷ []
+
+-- Tables over three, two and three leaves: leaf 1 twice and then a zero; row 1 in row 1; leaf 1 in two rows. And the table that case 2's
+-- left would have if its layout after freeing played a part.
+abbrev pub twiceThenZero : List ℤ
+twiceThenZero = minus 1 ∷ minus 1 ∷ minus 0 ∷ plus 1 ∷ []
+
+abbrev pub ownRow : List ℤ
+ownRow = plus 1 ∷ minus 2 ∷ []
+
+abbrev pub leafTwice : List ℤ
+leafTwice = minus 1 ∷ minus 2 ∷ minus 1 ∷ plus 1 ∷ []
+
+abbrev pub asItStands : List ℤ
+asItStands = minus 1 ∷ minus 2 ∷ plus 1 ∷ minus 3 ∷ plus 2 ∷ minus 4 ∷ []
 
 pub record Tried : Type 0 where
   -- A refusal 7 that says the last bad row in place of the lowest; one that says no row;
@@ -75,3 +92,14 @@ pub record Tried : Type 0 where
   pub reads-nothing : Reading goodText nines (record { refusal = refused 0; n = 4 }) nines → ⊥
   -- Writing that ends in a line feed.
   pub line-feed-written : (out out′ : List ℕ) → Writing tied 1 out (record { refusal = refused 0; length = 11 }) out′ → ⊥
+  -- Reading a table: a good one refused by 20; 21 told of one that has a zero later on;
+  pub refuses-good-table : TableReading 4 example1 nines (refused 20) nines → ⊥
+  pub twice-before-zero : TableReading 3 twiceThenZero nines (refused 21) nines → ⊥
+  -- one accepted that has row 1 in row 1, or leaf 1 in two rows, whatever is written;
+  pub own-row-accepted : (out : List ℕ) → TableReading 2 ownRow nines (refused 0) out → ⊥
+  pub leaf-in-two-rows : (out : List ℕ) → TableReading 3 leafTwice nines (refused 0) out → ⊥
+  -- minus and plus exchanged; and nothing written.
+  pub signs-exchanged : TableReading 4 example1 nines (refused 0) (5 ∷ 6 ∷ 7 ∷ 1 ∷ 8 ∷ 2 ∷ []) → ⊥
+  pub no-rows-written : TableReading 4 example1 nines (refused 0) nines → ⊥
+  -- Writing a table of the left as its layout stands, rows 2 and 3 turned over, and not as its rows are given.
+  pub turned-over-in-table : (out : List ℤ) → TableWriting (recordOf case2Freed) 1 out asItStands → ⊥

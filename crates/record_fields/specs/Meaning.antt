@@ -3,13 +3,18 @@ use Prim.Native.Nat.{ℕ}
 use mathlib.Core.List.{List, _++_}
 use lib.ListN.{take}
 use Rattle.tanglegram.specs.Tree.{Tree, tree}
-use Rattle.tanglegram.specs.Table.{Table, Layouts, linked}
+use Rattle.tanglegram.specs.Run.{Side}
+use Rattle.tanglegram.specs.Table.{Table, Layouts, pick, linked}
 use Rattle.work_trees.specs.Rows.{upper, lower}
 use Rattle.record_fields.specs.Fields.{sizeOf, leftLayoutAt, Parts, parts}
 
 -- The tree over n leaves that flat rows make.
 abbrev pub treeIn : ℕ → List ℕ → Tree
 treeIn n rows = tree (upper rows) (lower rows) n
+
+-- The rows of a side, as they are given.
+abbrev pub rowsOn : Parts → Side → List ℕ
+rowsOn P side = pick (P .left-rows) (P .right-rows) side
 
 -- The table and the layouts of parts, and of a record.
 abbrev pub tableIn : Parts → Table

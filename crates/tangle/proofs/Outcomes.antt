@@ -53,4 +53,10 @@ outcomes-for-c = record {
   newick-write =
       λ s side out a b x y g h.
       (alike (λ _ _ p q. equal-to-one (p .answers) (q .answers)) g h, equal-to-one (g .called .afterwards) (h .called .afterwards));
+  merge-read =
+      λ n table out a b x y g h.
+      (alike (λ _ _ p q. equal-to-one (p .answers) (q .answers)) g h, equal-to-one (g .called .afterwards) (h .called .afterwards));
+  merge-write =
+      λ s side out a b x y g h.
+      (alike (λ _ _ p q. equal-to-one (p .answers) (q .answers)) g h, equal-to-one (g .called .afterwards) (h .called .afterwards));
 }

@@ -16,6 +16,7 @@ use Rattle.calls_turns.proofs.Turns.{free-own, run-own}
 use Rattle.calls_hands.proofs.HandLists.{hands-own}
 use Rattle.calls_better.proofs.Compared.{compare-own}
 use Rattle.calls_newick.proofs.Outcomes.{write-own}
+use Rattle.calls_merge.proofs.SideWritten.{merge-own}
 use Rattle.tangle.specs.declared.answers.TangleRefusal.{TangleRefusal}
 use Rattle.tangle.specs.ForC.{Gives, refusalForC, entanglementForC}
 use Rattle.tangle.specs.RowsForC.{RowsForC}
@@ -71,4 +72,6 @@ rows-for-c = record {
   newick-write =
       λ s side out answer out′ g.
       in-form (λ x. x .refusal) (λ x. x .row) (λ a p. tells-row s (write-own s side out refl) (ap (λ c. c .refusal) (p .answers))) g;
+  merge-read = λ n table out answer out′ g. ap (λ x. x .row) (g .answers) ∙ ap (λ a. a .row) (g .called .answers);
+  merge-write = λ s side out answer out′ g. alone (λ a p. tells-row s (merge-own s side out refl) (p .answers)) g;
 }

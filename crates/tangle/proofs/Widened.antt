@@ -7,6 +7,7 @@ use mathlib.Core.List.{List}
 use native.Mathlib.Omega.{arith}
 use borrow.Author.Tests.{ne-eqb, lt-ltb, ltb-true, ltb-false}
 use lib.Dec.{ltb}
+use lib.IntN.{ℤ}
 use Rattle.record_fields.specs.declared.refusal.Refusal.{Refusal}
 use Rattle.record_fields.specs.Fields.{Parts, given, packed}
 use Rattle.record_fields.specs.Refusals.{isHold, noSize, setHoldRefusal}
@@ -28,6 +29,9 @@ use Rattle.calls_better.proofs.Compared.{comparing-13}
 use Rattle.calls_newick.specs.declared.answers.NewickWritten.{NewickWritten}
 use Rattle.calls_newick.specs.Calls.{NewickWrites}
 use Rattle.calls_newick.proofs.Outcomes.{writing-13}
+use Rattle.calls_merge.specs.Calls.{MergeReads, MergeWrites}
+use Rattle.calls_merge.proofs.TableRead.{reading-5}
+use Rattle.calls_merge.proofs.SideWritten.{merging-13}
 use Rattle.tangle.specs.Narrowed.{Narrowed}
 
 -- What is true of the narrow number is true of the wide one, if beyond the limit it follows from what is true of 0.
@@ -84,6 +88,12 @@ module _ {side k : ℕ} (w : Narrowed 65536 side k) where
       let e = writing-13 s side out no in
       record { answers = rw e (rw z at (p .answers)); afterwards = rw e (rw z at (p .afterwards)) })
 
+  pub merge-write-wide : {s : List ℕ} {out out′ : List ℤ} {a : Refusal} → MergeWrites s k out a out′ → MergeWrites s side out a out′
+  merge-write-wide {s} {out} {out′} {a} = by-side (λ x. MergeWrites s x out a out′) (λ no p.
+      let z = merging-13 s 0 out zero-no-side in
+      let e = merging-13 s side out no in
+      record { answers = rw (← e) (rw (← z) at (p .answers)); afterwards = rw (← e) (rw (← z) at (p .afterwards)) })
+
 -- ---- hold letters
 
 no-letter : (x : ℕ) → 256 ≤ x → isHold x ≡ false
@@ -110,7 +120,7 @@ hold-wide {s} {s′} {letter} {k} {a} w = widened (λ x. SetsHold s x a s′) w 
     let e = holding-4 s letter (no-letter letter h) in
     record { answers = rw (← e) (rw (← z) at (p .answers)); afterwards = rw (← e) (rw (← z) at (p .afterwards)) })
 
--- ---- packing: its letter and n
+-- ---- n, and packing: its letter and n
 
 no-size : (x : ℕ) → 65536 ≤ x → noSize x ≡ true
 unfolding noSize
@@ -119,6 +129,13 @@ no-size x h = rw (ne-eqb x 0 (λ e. omega arith), lt-ltb 512 x (omega arith)) re
 zero-no-size : noSize 0 ≡ true
 unfolding noSize
 zero-no-size = refl
+
+pub merge-read-wide : {n k : ℕ} {table : List ℤ} {out out′ : List ℕ} {a : Refusal} → Narrowed 65536 n k → MergeReads k table out a out′ →
+    MergeReads n table out a out′
+merge-read-wide {n} {k} {table} {out} {out′} {a} w = widened (λ x. MergeReads x table out a out′) w (λ h p.
+    let z = reading-5 0 table out zero-no-size in
+    let e = reading-5 n table out (no-size n h) in
+    record { answers = rw (← e) (rw (← z) at (p .answers)); afterwards = rw (← e) (rw (← z) at (p .afterwards)) })
 
 -- parts that are refused alike, with a number that has no row
 packs-alike : {P Q : Parts} {out out′ : List ℕ} {a : Refusal} {c : ℕ} → c ≢ 0 → Alone c → c ≡ packRefusal P out → c ≡ packRefusal Q out →

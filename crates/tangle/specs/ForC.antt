@@ -4,7 +4,7 @@ use Prim.Native.Nat.{ℕ}
 use mathlib.Core.Path.{_≡_}
 use mathlib.Core.Bool.{false}
 use mathlib.Core.List.{List}
-use lib.IntN.{pos}
+use lib.IntN.{ℤ, pos}
 use lib.Ieee.{fin}
 use Rattle.record_fields.specs.declared.refusal.Refusal.{Refusal}
 use Rattle.record_fields.specs.Fields.{Parts}
@@ -26,6 +26,7 @@ use Rattle.calls_better.specs.Calls.{Compares, BetterChecks}
 use Rattle.calls_newick.specs.declared.answers.NewickRead.{NewickRead}
 use Rattle.calls_newick.specs.declared.answers.NewickWritten.{NewickWritten}
 use Rattle.calls_newick.specs.Calls.{NewickReads, NewickWrites}
+use Rattle.calls_merge.specs.Calls.{MergeReads, MergeWrites}
 use Rattle.tangle.specs.declared.answers.TangleRefusal.{TangleRefusal}
 use Rattle.tangle.specs.declared.answers.TangleCount.{TangleCount}
 use Rattle.tangle.specs.declared.answers.TangleEntanglement.{TangleEntanglement}
@@ -42,7 +43,7 @@ pub record Gives {A B : Type 0} (call : A → Type 0) (form : A → B) (answer :
   pub called : call given
   pub answers : answer ≡ form given
 
--- ---- check, order, hold, hands, better_check, pack: the refusal and its row alone
+-- ---- check, order, hold, hands, better_check, pack, merge_read, merge_write: the refusal and its row alone
 
 abbrev pub refusalForC : Refusal → TangleRefusal
 refusalForC a = record { refusal = a .number; row = a .row }
@@ -64,6 +65,12 @@ BetterChecksForC s side first second answer = Gives (BetterChecks s side first s
 
 abbrev pub PacksForC : Parts → List ℕ → TangleRefusal → List ℕ → Type 0
 PacksForC P out answer out′ = Gives (λ a. Packs P out a out′) refusalForC answer
+
+abbrev pub MergeReadsForC : ℕ → List ℤ → List ℕ → TangleRefusal → List ℕ → Type 0
+MergeReadsForC n table out answer out′ = Gives (λ a. MergeReads n table out a out′) refusalForC answer
+
+abbrev pub MergeWritesForC : List ℕ → ℕ → List ℤ → TangleRefusal → List ℤ → Type 0
+MergeWritesForC s side out answer out′ = Gives (λ a. MergeWrites s side out a out′) refusalForC answer
 
 -- ---- count and pairs
 

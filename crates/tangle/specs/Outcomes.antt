@@ -2,12 +2,14 @@
 -- lent to it. Prove that any two outcomes satisfying it are equal." Here for the calls for C.
 use Prim.Native.Nat.{ℕ}
 use mathlib.Core.List.{List}
+use lib.IntN.{ℤ}
 use Rattle.record_fields.specs.Fields.{Parts}
 use Rattle.record_fields.specs.Fixes.{Fixes, FixesBoth}
 use Rattle.calls_hands.specs.Refusals.{Hand}
 use Rattle.tangle.specs.declared.answers.TangleUnpack.{TangleUnpack}
 use Rattle.tangle.specs.ForC.{ChecksForC, OrdersForC, SetsHoldForC, HandsForC, BetterChecksForC, PacksForC, CountsForC}
 use Rattle.tangle.specs.ForC.{EntanglesForC, FreesForC, RunsForC, ComparesForC, UnpacksForC, NewickReadsForC, NewickWritesForC}
+use Rattle.tangle.specs.ForC.{MergeReadsForC, MergeWritesForC}
 
 -- What unpacking comes to: its answer, and what is in the five buffers afterwards.
 pub record UnpackOutcomeForC : Type 0 where
@@ -39,3 +41,5 @@ pub record OutcomesForC : Type 0 where
   pub unpack : (s left right links left-layout right-layout : List ℕ) → Fixes (UnpacksToForC s left right links left-layout right-layout)
   pub newick-read : (text out : List ℕ) → FixesBoth (NewickReadsForC text out)
   pub newick-write : (s : List ℕ) (side : ℕ) (out : List ℕ) → FixesBoth (NewickWritesForC s side out)
+  pub merge-read : (n : ℕ) (table : List ℤ) (out : List ℕ) → FixesBoth (MergeReadsForC n table out)
+  pub merge-write : (s : List ℕ) (side : ℕ) (out : List ℤ) → FixesBoth (MergeWritesForC s side out)

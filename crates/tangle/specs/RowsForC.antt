@@ -4,6 +4,7 @@
 use Prim.Native.Nat.{ℕ}
 use mathlib.Core.Path.{_≡_}
 use mathlib.Core.List.{List}
+use lib.IntN.{ℤ}
 use Rattle.record_fields.specs.Fields.{Parts, parts}
 use Rattle.record_fields.specs.Told.{SaysRow}
 use Rattle.calls_hands.specs.Refusals.{Hand}
@@ -17,6 +18,7 @@ use Rattle.tangle.specs.declared.answers.TangleNewickRead.{TangleNewickR
 use Rattle.tangle.specs.declared.answers.TangleNewickWrite.{TangleNewickWrite}
 use Rattle.tangle.specs.ForC.{ChecksForC, OrdersForC, SetsHoldForC, HandsForC, BetterChecksForC, PacksForC, CountsForC}
 use Rattle.tangle.specs.ForC.{EntanglesForC, FreesForC, RunsForC, ComparesForC, NewickReadsForC, NewickWritesForC}
+use Rattle.tangle.specs.ForC.{MergeReadsForC, MergeWritesForC}
 use Rattle.tangle.specs.Outcomes.{UnpackOutcomeForC, UnpacksToForC}
 
 pub record RowsForC : Type 0 where
@@ -49,3 +51,8 @@ pub record RowsForC : Type 0 where
       answer .row ≡ 0
   pub newick-write : (s : List ℕ) (side : ℕ) (out : List ℕ) (answer : TangleNewickWrite) (out′ : List ℕ) →
       NewickWritesForC s side out answer out′ → SaysRow (parts s) (answer .refusal) (answer .row)
+  -- Nor has a merge table.
+  pub merge-read : (n : ℕ) (table : List ℤ) (out : List ℕ) (answer : TangleRefusal) (out′ : List ℕ) →
+      MergeReadsForC n table out answer out′ → answer .row ≡ 0
+  pub merge-write : (s : List ℕ) (side : ℕ) (out : List ℤ) (answer : TangleRefusal) (out′ : List ℤ) →
+      MergeWritesForC s side out answer out′ → SaysRow (parts s) (answer .refusal) (answer .row)

@@ -1,7 +1,7 @@
 // What the calls for C answer: structs of 32-bit numbers and one ratio, the refusal's number and its row first, and
 // zero for every other number where the refusal is not 0. The row is 0 unless the refusal is 7 or 8.
 
-// Of check, order, hands, better_check, hold and pack: the refusal and its row.
+// Of check, order, hands, better_check, hold, pack, merge_read and merge_write: the refusal and its row.
 #[repr(C)]
 pub struct TangleRefusal {
     pub refusal: u32,

@@ -5,7 +5,7 @@ use borrow.Author.Tests.{not-true, not-false}
 use borrow.Author.Needs.{needs}
 use Rattle.record_fields.proofs.Acceptance.{accepted-sized}
 use Rattle.record_arrays.proofs.AsItStands.{long-enough}
-use Rattle.calls_merge.proofs.SideWritten.{writing-13, writing-record, writing-14, writing-0}
+use Rattle.calls_merge.proofs.SideWritten.{merging-13, merging-record, merging-14, merging-0}
 use Rattle.calls_merge.proofs.writing.writing_number.Statement.{statement}
 use Rattle.calls_merge.proofs.writing.writing_number.Tie as tie
 
@@ -13,7 +13,7 @@ is-side-requires : tie.Need-is-side-requires
 is-side-requires c κs = search needs
 
 returns : tie.Need-returns
-returns c = writing-13 _ _ _ (sym (c .before .is-side .ensures) ∙ not-true _ (c .if1 .taken))
+returns c = merging-13 _ _ _ (sym (c .before .is-side .ensures) ∙ not-true _ (c .if1 .taken))
 
 refusal-number-requires : tie.Need-refusal-number-requires
 refusal-number-requires c κs = search needs
@@ -22,7 +22,7 @@ returns-2 : tie.Need-returns-2
 returns-2 c =
     let p = c .before .before in
     let e = c .before .refusal-number .ensures in
-    e ∙ writing-record _ _ _ (sym (p .before .is-side .ensures) ∙ not-false _ (p .if1 .left)) (λ z. c .if2 .taken (e ∙ z))
+    e ∙ merging-record _ _ _ (sym (p .before .is-side .ensures) ∙ not-false _ (p .if1 .left)) (λ z. c .if2 .taken (e ∙ z))
 
 size-of-requires : tie.Need-size-of-requires
 size-of-requires c κs = long-enough _ (sym (c .before .refusal-number .ensures) ∙ c .if2 .left)
@@ -43,7 +43,7 @@ returns-3 : tie.Need-returns-3
 returns-3 c =
     let q = c .before .before in
     let p = q .before .before in
-    writing-14 _ _ _ (sym (p .before .is-side .ensures) ∙ not-false _ (p .if1 .left))
+    merging-14 _ _ _ (sym (p .before .is-side .ensures) ∙ not-false _ (p .if1 .left))
     (sym (q .before .refusal-number .ensures) ∙ q .if2 .left)
     (rw (c .before .size-of .ensures) at (c .if3 .taken))
 
@@ -51,7 +51,7 @@ returns-4 : tie.Need-returns-4
 returns-4 c =
     let q = c .before .before in
     let p = q .before .before in
-    writing-0 _ _ _ (sym (p .before .is-side .ensures) ∙ not-false _ (p .if1 .left))
+    merging-0 _ _ _ (sym (p .before .is-side .ensures) ∙ not-false _ (p .if1 .left))
     (sym (q .before .refusal-number .ensures) ∙ q .if2 .left)
     (rw (c .before .size-of .ensures) at (c .if3 .left))
 
