@@ -6,11 +6,11 @@ use Rattle.desk_words.specs.Words.{placeOf}
 use Rattle.desk.specs.declared.calls.Call.{Call}
 use Rattle.desk.specs.declared.calls.Call.the-variants.{Check, Order, Count, Pairs, Entanglement, Free, Run}
 use Rattle.desk.specs.declared.calls.Call.the-variants.{Hands, Better, BetterCheck, Hold, Pack, Unpack}
-use Rattle.desk.specs.declared.calls.Call.the-variants.{NewickRead, NewickWrite, NoCall}
+use Rattle.desk.specs.declared.calls.Call.the-variants.{NewickRead, NewickWrite, MergeRead, MergeWrite, NoCall}
 
 -- The names, as bytes: check, order, count, pairs, entanglement, free, run,
 -- hands, better, better_check, hold, pack, unpack,
--- newick_read, newick_write.
+-- newick_read, newick_write, merge_read, merge_write.
 unfoldable pub names : List (List ℕ)
 names =
     (99 ∷ 104 ∷ 101 ∷ 99 ∷ 107 ∷ []) ∷
@@ -28,12 +28,14 @@ names =
     (117 ∷ 110 ∷ 112 ∷ 97 ∷ 99 ∷ 107 ∷ []) ∷
     (110 ∷ 101 ∷ 119 ∷ 105 ∷ 99 ∷ 107 ∷ 95 ∷ 114 ∷ 101 ∷ 97 ∷ 100 ∷ []) ∷
     (110 ∷ 101 ∷ 119 ∷ 105 ∷ 99 ∷ 107 ∷ 95 ∷ 119 ∷ 114 ∷ 105 ∷ 116 ∷ 101 ∷ []) ∷
+    (109 ∷ 101 ∷ 114 ∷ 103 ∷ 101 ∷ 95 ∷ 114 ∷ 101 ∷ 97 ∷ 100 ∷ []) ∷
+    (109 ∷ 101 ∷ 114 ∷ 103 ∷ 101 ∷ 95 ∷ 119 ∷ 114 ∷ 105 ∷ 116 ∷ 101 ∷ []) ∷
     []
 
 -- The calls in the order of their names.
 unfoldable pub calls : List Call
 calls = Check ∷ Order ∷ Count ∷ Pairs ∷ Entanglement ∷ Free ∷ Run ∷
-    Hands ∷ Better ∷ BetterCheck ∷ Hold ∷ Pack ∷ Unpack ∷ NewickRead ∷ NewickWrite ∷ []
+    Hands ∷ Better ∷ BetterCheck ∷ Hold ∷ Pack ∷ Unpack ∷ NewickRead ∷ NewickWrite ∷ MergeRead ∷ MergeWrite ∷ []
 
 -- The call of a name.
 unfoldable pub callNamed : List ℕ → Call
@@ -56,9 +58,11 @@ wordsOf Pack = 9
 wordsOf Unpack = 7
 wordsOf NewickRead = 3
 wordsOf NewickWrite = 4
+wordsOf MergeRead = 4
+wordsOf MergeWrite = 4
 wordsOf NoCall = 0
 
--- Which of them says the bytes that it is lent.
+-- Which of them says the bytes that it is lent; the name, number 0, where it is lent none.
 unfoldable pub lentBy : Call → ℕ
 lentBy Check = 1
 lentBy Order = 1
@@ -75,4 +79,6 @@ lentBy Pack = 8
 lentBy Unpack = 1
 lentBy NewickRead = 1
 lentBy NewickWrite = 1
+lentBy MergeRead = 0
+lentBy MergeWrite = 1
 lentBy NoCall = 1

@@ -19,6 +19,8 @@ pub enum Call {
     Unpack,
     NewickRead,
     NewickWrite,
+    MergeRead,
+    MergeWrite,
     NoCall,
 }
 
@@ -28,7 +30,7 @@ pub fn named(name: &[u8]) -> Call
 {
     let names =
         b"check order count pairs entanglement free run hands better better_check hold pack unpack \
-          newick_read newick_write";
+          newick_read newick_write merge_read merge_write";
     match place(names, name) {
         0 => Call::Check,
         1 => Call::Order,
@@ -45,6 +47,8 @@ pub fn named(name: &[u8]) -> Call
         12 => Call::Unpack,
         13 => Call::NewickRead,
         14 => Call::NewickWrite,
+        15 => Call::MergeRead,
+        16 => Call::MergeWrite,
         _ => Call::NoCall,
     }
 }
@@ -69,16 +73,20 @@ pub fn words(call: Call) -> usize
         Call::Unpack => 7,
         Call::NewickRead => 3,
         Call::NewickWrite => 4,
+        Call::MergeRead => 4,
+        Call::MergeWrite => 4,
         Call::NoCall => 0,
     }
 }
 
-// Which word of a line says the bytes that the call is lent: RECORD, TEXT, or pack's OUT.
+// Which word of a line says the bytes that the call is lent: RECORD, TEXT, or pack's OUT; 0, its name, for merge_read,
+// which is lent none.
 pub fn lent(call: Call) -> usize
     ensures { λ r. ⌜ r ≡ lentBy call ⌝ }
 {
     match call {
         Call::Pack => 8,
+        Call::MergeRead => 0,
         _ => 1,
     }
 }

@@ -29,7 +29,7 @@ fn show(call: Call, line: &[u8], s: &[u8], xs: &mut [u16]) {
         Call::Entanglement => showing::entanglement(s),
         Call::Better => showing::better(line, s, xs, false),
         Call::BetterCheck => showing::better(line, s, xs, true),
-        Call::Unpack => desk_parts::unpack(line, s),
+        Call::Unpack => desk_parts::unpack(line, s, xs),
         Call::NewickRead => desk_newick::newick_read(line, s, xs),
         Call::NewickWrite => desk_newick::newick_write(line, s),
         _ => no_call(),
@@ -44,8 +44,20 @@ fn make(call: Call, line: &[u8], s: &mut [u8], xs: &mut [u16]) {
         Call::Hands => changing::hands(line, s),
         Call::Hold => changing::hold(line, s),
         Call::Pack => desk_parts::pack(line, s, xs),
+        Call::MergeRead => desk_merge::merge_read(line, xs),
+        Call::MergeWrite => desk_merge::merge_write(line, s),
         _ => show(call, line, s, xs),
     }
+}
+
+// Puts the bytes that a call is lent into s, and answers how many: none where the call is lent none, more than there is
+// room for where its word says no bytes.
+fn lend(call: Call, line: &[u8], s: &mut [u8]) -> usize {
+    let k = lent(call);
+    if k == 0 {
+        return 0;
+    }
+    bytes(word(line, k), s)
 }
 
 // Answers one line. The bytes that its call is lent go into s, its lists into xs.
@@ -54,7 +66,7 @@ fn answer(line: &[u8], s: &mut [u8], xs: &mut [u16]) {
     if count(line) != words(call) {
         return no_call();
     }
-    let n = bytes(word(line, lent(call)), s);
+    let n = lend(call, line, s);
     if s.len() < n {
         return no_call();
     }

@@ -7,6 +7,6 @@ use lib.Dec.{leb}
 abbrev pub room : ℕ
 room = 524288
 
--- Five counts are within the room.
-unfoldable pub fits5 : ℕ → ℕ → ℕ → ℕ → ℕ → Bool
-fits5 a b c d e = leb a room && (leb b room && (leb c room && (leb d room && leb e room)))
+-- Four counts are within the room.
+unfoldable pub fits4 : ℕ → ℕ → ℕ → ℕ → Bool
+fits4 a b c d = leb a room && (leb b room && (leb c room && leb d room))

@@ -10,14 +10,14 @@ use desk_words::spelling::no_call;
 use desk_words::words::word;
 use record_unpacking::unpacking::Unpacked;
 ghost use mathlib.Core.Path.{_≡_};
-ghost use Rattle.desk_parts.specs.Room.{fits5};
+ghost use Rattle.desk_parts.specs.Room.{fits4};
 
 // The places that there are for a list or a layout.
 const ROOM: usize = 524288;
 
-// Whether five counts are within the room that is there for a list or a layout.
-fn fit(a: usize, b: usize, c: usize, d: usize, e: usize) -> bool
-    ensures { λ r. ⌜ r ≡ fits5 a b c d e ⌝ }
+// Whether four counts are within the room that is there for a list or a layout.
+fn fit(a: usize, b: usize, c: usize, d: usize) -> bool
+    ensures { λ r. ⌜ r ≡ fits4 a b c d ⌝ }
 {
     if ROOM < a {
         return false;
@@ -28,10 +28,7 @@ fn fit(a: usize, b: usize, c: usize, d: usize, e: usize) -> bool
     if ROOM < c {
         return false;
     }
-    if ROOM < d {
-        return false;
-    }
-    e <= ROOM
+    d <= ROOM
 }
 
 // NUMBER HOLD N
@@ -42,22 +39,25 @@ fn heading(answer: Unpacked) {
     printing::next_entry(answer.n)
 }
 
-// unpack RECORD LEFT RIGHT LINKS LAYOUT LAYOUT -> NUMBER HOLD N LEFT RIGHT LINKS LAYOUT LAYOUT
-pub fn unpack(line: &[u8], s: &[u8]) {
-    let mut left = room::for_list();
+// unpack RECORD LEFT RIGHT LINKS LAYOUT LAYOUT -> NUMBER HOLD N LEFT RIGHT LINKS LAYOUT LAYOUT. The left list goes into
+// xs: a program's stack has room for few lists of its own.
+pub fn unpack(line: &[u8], s: &[u8], xs: &mut [u16]) {
+    let a = list(word(line, 2), xs);
+    if xs.len() < a {
+        return no_call();
+    }
     let mut right = room::for_list();
     let mut links = room::for_list();
     let mut leftlay = room::for_bytes();
     let mut rightlay = room::for_bytes();
-    let a = list(word(line, 2), &mut left);
     let b = list(word(line, 3), &mut right);
     let c = list(word(line, 4), &mut links);
     let d = bytes(word(line, 5), &mut leftlay);
     let e = bytes(word(line, 6), &mut rightlay);
-    if fit(a, b, c, d, e) {
+    if fit(b, c, d, e) {
         return unpack_into(
             s,
-            &mut left[..a],
+            &mut xs[..a],
             &mut right[..b],
             &mut links[..c],
             &mut leftlay[..d],

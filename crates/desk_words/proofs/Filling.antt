@@ -21,11 +21,11 @@ told none d r e h = absurd (let z : r ≡ d = e in omega arith)
 told (some x) d r e h = ap some (sym e)
 
 -- ---- a word that puts nothing
-pub puts-none : {said : Option (List ℕ)} (found left : List ℕ) → said ≡ none → Puts said found nowhere left
+pub puts-none : {A : Type 0} {said : Option (List A)} (found left : List A) → said ≡ none → Puts said found nowhere left
 unfolding placesFilled
 puts-none found left e = record { answers = rw e; puts = λ xs q. absurd (never (sym e ∙ q)) }
 
-pub puts-over : {said : Option (List ℕ)} (xs found left : List ℕ) → said ≡ some xs → length found < length xs
+pub puts-over : {A : Type 0} {said : Option (List A)} (xs found left : List A) → said ≡ some xs → length found < length xs
     → Puts said found nowhere left
 unfolding placesFilled
 puts-over xs found left e h = record {
@@ -33,7 +33,7 @@ puts-over xs found left e h = record {
   puts = λ ys q l. absurd (let same : xs ≡ ys = cc in let z : length xs ≡ length ys = ap length same in omega arith);
 }
 
-pub puts-empty : {said : Option (List ℕ)} (found : List ℕ) → said ≡ some [] → Puts said found 0 found
+pub puts-empty : {A : Type 0} {said : Option (List A)} (found : List A) → said ≡ some [] → Puts said found 0 found
 unfolding placesFilled
 puts-empty found e = record {
   answers = rw (e, le-leb 0 (length found) (omega arith));
@@ -42,55 +42,56 @@ puts-empty found e = record {
 
 -- ---- the loop
 -- Entries in front of others, where there are others.
-abbrev prepend : List ℕ → Option (List ℕ) → Option (List ℕ)
+abbrev prepend : {A : Type 0} → List A → Option (List A) → Option (List A)
 prepend xs none = none
 prepend xs (some ys) = some (xs ++ ys)
 
-pub record Filling (said rest : Option (List ℕ)) (found : List ℕ) (n : ℕ) (out : List ℕ) : Type 0 where
+pub record Filling {A : Type 0} (said rest : Option (List A)) (found : List A) (n : ℕ) (out : List A) : Type 0 where
   pub stood : said ≡ prepend (take n out) rest
   pub long : length out ≡ length found
   pub kept : drop n out ≡ drop n found
 
-prepend-nil : (o : Option (List ℕ)) → o ≡ prepend [] o
+prepend-nil : {A : Type 0} (o : Option (List A)) → o ≡ prepend [] o
 prepend-nil none = refl
 prepend-nil (some xs) = refl
 
-pub fill-none : {said : Option (List ℕ)} (rest : Option (List ℕ)) (found : List ℕ) → said ≡ rest → Filling said rest found 0 found
+pub fill-none : {A : Type 0} {said : Option (List A)} (rest : Option (List A)) (found : List A) → said ≡ rest
+    → Filling said rest found 0 found
 fill-none rest found e = record { stood = e ∙ prepend-nil rest; long = refl; kept = refl }
 
-prepend-more : (xs : List ℕ) (x : ℕ) (o : Option (List ℕ)) → prepend xs (joined (some x) o) ≡ prepend (xs ++ (x ∷ [])) o
+prepend-more : {A : Type 0} (xs : List A) (x : A) (o : Option (List A)) → prepend xs (joined (some x) o) ≡ prepend (xs ++ (x ∷ [])) o
 prepend-more xs x none = refl
 prepend-more xs x (some ys) = ap some (sym (append-assoc xs (x ∷ []) ys))
 
-drop-more : (n : ℕ) (a b : List ℕ) → drop n a ≡ drop n b → drop (suc n) a ≡ drop (suc n) b
+drop-more : {A : Type 0} (n : ℕ) (a b : List A) → drop n a ≡ drop n b → drop (suc n) a ≡ drop (suc n) b
 drop-more n a b e = rw (← add-one) (sym (drop-drop 1 n a) ∙ ap (drop 1) e ∙ drop-drop 1 n b)
 
-pub fill-more : {said : Option (List ℕ)} (rest : Option (List ℕ)) (found : List ℕ) (n x : ℕ) (out : List ℕ) → n < length out
-    → Filling said (joined (some x) rest) found n out → Filling said rest found (suc n) (set out n x)
+pub fill-more : {A : Type 0} {said : Option (List A)} (rest : Option (List A)) (found : List A) (n : ℕ) (x : A) (out : List A)
+    → n < length out → Filling said (joined (some x) rest) found n out → Filling said rest found (suc n) (set out n x)
 fill-more rest found n x out h f = record {
   stood = rw (take-suc-set out n x h) (f .stood ∙ prepend-more (take n out) x rest);
   long = length-set out n x ∙ f .long;
   kept = drop-set-lt (suc n) out n x (omega arith) ∙ drop-more n out found (f .kept);
 }
 
-pub fill-bad : {said : Option (List ℕ)} (rest : Option (List ℕ)) (found : List ℕ) (n : ℕ) (out : List ℕ)
+pub fill-bad : {A : Type 0} {said : Option (List A)} (rest : Option (List A)) (found : List A) (n : ℕ) (out : List A)
     → Filling said (joined none rest) found n out → Puts said found nowhere out
 fill-bad rest found n out f = puts-none found out (f .stood)
 
-pub fill-end : {said : Option (List ℕ)} (found : List ℕ) (n : ℕ) (out : List ℕ) → n ≤ length found
+pub fill-end : {A : Type 0} {said : Option (List A)} (found : List A) (n : ℕ) (out : List A) → n ≤ length found
     → Filling said (some []) found n out → Puts said found n out
 unfolding placesFilled
-fill-end found n out h f =
+fill-end {A} found n out h f =
     let is : _ ≡ some (take n out) = f .stood ∙ ap some (append-nil (take n out)) in
     let size : length (take n out) ≡ n = length-take-le n out (omega (arith, f .long)) in
     record {
       answers = rw (is, size, le-leb n (length found) h);
       puts = λ xs q l.
           let same : take n out ≡ xs = cc in
-          rw (← same) (rw size (sym (take-append-drop n out) ∙ ap (λ (t : List ℕ). take n out ++ t) (f .kept)));
+          rw (← same) (rw size (sym (take-append-drop n out) ∙ ap (λ (t : List A). take n out ++ t) (f .kept)));
     }
 
-full-by : {said : Option (List ℕ)} (o : Option ℕ) (rest : Option (List ℕ)) (found : List ℕ) (n : ℕ) (out : List ℕ)
+full-by : {A : Type 0} {said : Option (List A)} (o : Option A) (rest : Option (List A)) (found : List A) (n : ℕ) (out : List A)
     → length found ≤ n → Filling said (joined o rest) found n out → Puts said found nowhere out
 full-by none rest found n out h f = puts-none found out (f .stood)
 full-by (some x) none found n out h f = puts-none found out (f .stood)
@@ -98,6 +99,6 @@ full-by (some x) (some ys) found n out h f =
     puts-over (take n out ++ (x ∷ ys)) found out (f .stood)
     (rw (length-append (take n out) (x ∷ ys), length-take n out) (omega (arith, f .long)))
 
-pub fill-full : {said : Option (List ℕ)} (o : Option ℕ) (rest : Option (List ℕ)) (found : List ℕ) (n : ℕ) (out : List ℕ)
+pub fill-full : {A : Type 0} {said : Option (List A)} (o : Option A) (rest : Option (List A)) (found : List A) (n : ℕ) (out : List A)
     → length found ≤ n → Filling said (joined o rest) found n out → Puts said found nowhere out
 fill-full o rest found n out h f = full-by o rest found n out h f

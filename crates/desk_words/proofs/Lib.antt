@@ -5,3 +5,4 @@ mod Pairing
 mod Listing
 mod Handing
 mod Spelt
+mod Signing

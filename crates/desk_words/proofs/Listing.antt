@@ -25,9 +25,9 @@ part word from to = take (to - from) (drop from word)
 abbrev pub ListEnds : List ℕ → ℕ → ℕ → Type 0
 ListEnds word from to = to ≡ from + upToStop 44 (drop from word)
 
-module _ (f : List ℕ → Option ℕ) (word : List ℕ) where
+module _ {A : Type 0} (f : List ℕ → Option A) (word : List ℕ) where
   -- What the rest of the word says, from a part's first place on.
-  pub rest : ℕ → Option (List ℕ)
+  pub rest : ℕ → Option (List A)
   rest from = eachIn f (pieces 44 (drop from word))
 
   module _ (from to : ℕ) (h : from ≤ length word) (e : ListEnds word from to) where
@@ -51,12 +51,12 @@ module _ (f : List ℕ → Option ℕ) (word : List ℕ) where
         ∙ ap (λ (k : ℕ). joined (f (take k (drop from word))) (eachIn f (pieces 44 (behind 44 (drop from word))))) upto
         ∙ ap (λ (l : List ℕ). joined (f (part word from to)) (eachIn f (pieces 44 l))) on
 
-  -- The numbers of the parts before place `from` stand in the first n places.
-  pub record Listed (found : List ℕ) (n from : ℕ) (out : List ℕ) : Type 0 where
+  -- The entries of the parts before place `from` stand in the first n places.
+  pub record Listed (found : List A) (n from : ℕ) (out : List A) : Type 0 where
     pub at : from ≤ length word
     pub filling : Filling (entriesIn f word) (rest from) found n out
 
-  pub listed-none : (found : List ℕ) → dash word ≡ false → Listed found 0 0 found
+  pub listed-none : (found : List A) → dash word ≡ false → Listed found 0 0 found
   unfolding rest entriesIn
   listed-none found d = record { at = omega arith; filling = fill-none (rest 0) found (rw d) }
 
@@ -64,13 +64,13 @@ module _ (f : List ℕ → Option ℕ) (word : List ℕ) where
   unfolding entriesIn
   dash-said d = rw d
 
-  module _ (found : List ℕ) (n from to : ℕ) (out : List ℕ) (e : ListEnds word from to) (l : Listed found n from out) where
+  module _ (found : List A) (n from to : ℕ) (out : List A) (e : ListEnds word from to) (l : Listed found n from out) where
     -- The part says x.
-    module _ (x : ℕ) (said : f (part word from to) ≡ some x) (room : n < length out) where
+    module _ (x : A) (said : f (part word from to) ≡ some x) (room : n < length out) where
       pub listed-more : to < length word → Listed found (n + 1) (to + 1) (set out n x)
       listed-more h =
           let here : rest from ≡ joined (some x) (rest (to + 1)) =
-          rest-more from to (l .at) e h ∙ ap (λ (o : Option ℕ). joined o (rest (to + 1))) said in
+          rest-more from to (l .at) e h ∙ ap (λ (o : Option A). joined o (rest (to + 1))) said in
           record {
             at = omega arith;
             filling = rw (add-one n) (fill-more (rest (to + 1)) found n x out room (rw here at (l .filling)));
@@ -79,16 +79,16 @@ module _ (f : List ℕ → Option ℕ) (word : List ℕ) where
       pub listed-last : to ≡ length word → Puts (entriesIn f word) found (n + 1) (set out n x)
       listed-last h =
           let here : rest from ≡ joined (some x) (some []) =
-          rest-last from to (l .at) e h ∙ ap (λ (o : Option ℕ). joined o (some [])) said in
+          rest-last from to (l .at) e h ∙ ap (λ (o : Option A). joined o (some [])) said in
           let more = fill-more (some []) found n x out room (rw here at (l .filling)) in
           rw add-one (fill-end found (suc n) (set out n x) (omega (arith, l .filling .long)) more)
 
     bad-by : f (part word from to) ≡ none → (to ≡ length word) ⊎ (to < length word) → Puts (entriesIn f word) found nowhere out
     bad-by said (inl h) =
-        let here = rest-last from to (l .at) e h ∙ ap (λ (o : Option ℕ). joined o (some [])) said in
+        let here = rest-last from to (l .at) e h ∙ ap (λ (o : Option A). joined o (some [])) said in
         fill-bad (some []) found n out (rw here at (l .filling))
     bad-by said (inr h) =
-        let here = rest-more from to (l .at) e h ∙ ap (λ (o : Option ℕ). joined o (rest (to + 1))) said in
+        let here = rest-more from to (l .at) e h ∙ ap (λ (o : Option A). joined o (rest (to + 1))) said in
         fill-bad (rest (to + 1)) found n out (rw here at (l .filling))
 
     pub listed-bad : to ≤ length word → f (part word from to) ≡ none → Puts (entriesIn f word) found nowhere out
@@ -100,7 +100,7 @@ module _ (f : List ℕ → Option ℕ) (word : List ℕ) where
     full-by full (inr h) =
         fill-full (f (part word from to)) (rest (to + 1)) found n out full (rw (rest-more from to (l .at) e h) at (l .filling))
 
-  pub listed-full : (found : List ℕ) (n from : ℕ) (out : List ℕ) → Listed found n from out → length out ≤ n
+  pub listed-full : (found : List A) (n from : ℕ) (out : List A) → Listed found n from out → length out ≤ n
       → Puts (entriesIn f word) found nowhere out
   listed-full found n from out l full =
       let to = from + upToStop 44 (drop from word) in

@@ -90,6 +90,13 @@ pub none-above : (o : Option ℕ) (most r : ℕ) → Limited most o → r ≡ Op
 none-above none most r l e h = refl
 none-above (some x) most r l e h = absurd (let z : r ≡ x = e in let y : x ≤ most = l in omega arith)
 
+one-more-by : (o : Option ℕ) (most r : ℕ) → Limited most o → r ≡ Option·getD o (most + 1) → r ≤ most + 1
+one-more-by none most r l e = omega arith
+one-more-by (some x) most r l e = let z : r ≡ x = e in let y : x ≤ most = l in omega arith
+
+pub one-more : (most : ℕ) (word : List ℕ) (r : ℕ) → r ≡ Option·getD (numberIn most word) (most + 1) → r ≤ most + 1
+one-more most word r e = one-more-by (numberIn most word) most r (limited most word) e
+
 -- ---- a digit
 pub digit-low : (x : ℕ) → x < 48 → 10 ≡ digitOf x
 unfolding digitOf

@@ -16,7 +16,7 @@ unfoldable pub byteIn : ℕ → ℕ → Option ℕ
 byteIn a b = cond (leb (hexOf a) 15 && leb (hexOf b) 15) (some (16 * hexOf a + hexOf b)) none
 
 -- An entry in front of others, where there are both.
-abbrev pub joined : Option ℕ → Option (List ℕ) → Option (List ℕ)
+abbrev pub joined : {A : Type 0} → Option A → Option (List A) → Option (List A)
 joined none o = none
 joined (some x) none = none
 joined (some x) (some xs) = some (x ∷ xs)

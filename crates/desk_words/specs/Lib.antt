@@ -3,3 +3,4 @@ pub mod Numbers
 pub mod Bytes
 pub mod Lists
 pub mod Puts
+pub mod Tables

@@ -9,13 +9,13 @@ use Rattle.desk_words.specs.Words.{upToStop, behind, pieces, dash}
 use Rattle.desk_words.specs.Numbers.{numberIn}
 use Rattle.desk_words.specs.Bytes.{joined}
 
--- What each part says, where each says a number.
-unfoldable pub eachIn : (List ℕ → Option ℕ) → List (List ℕ) → Option (List ℕ)
+-- What each part says, where each says an entry.
+unfoldable pub eachIn : {A : Type 0} → (List ℕ → Option A) → List (List ℕ) → Option (List A)
 eachIn f [] = some []
 eachIn f (p ∷ ps) = joined (f p) (eachIn f ps)
 
 -- What a word says part by part: nothing for a dash, else what its parts between commas say.
-unfoldable pub entriesIn : (List ℕ → Option ℕ) → List ℕ → Option (List ℕ)
+unfoldable pub entriesIn : {A : Type 0} → (List ℕ → Option A) → List ℕ → Option (List A)
 entriesIn f word = cond (dash word) (some []) (eachIn f (pieces 44 word))
 
 -- The list that a word says: 16-bit numbers.

@@ -22,3 +22,8 @@ pub fn for_list() -> [u16; 524288] {
 pub fn for_hands() -> [u32; 262144] {
     [0; 262144]
 }
+
+// For the signed numbers of a list.
+pub fn for_table() -> [i32; 524288] {
+    [0; 524288]
+}

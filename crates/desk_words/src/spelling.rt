@@ -86,6 +86,21 @@ pub fn next_list(xs: &[u16]) {
     list(xs);
 }
 
+// A space and a list of signed numbers with commas between, or a dash for none.
+pub fn next_table(xs: &[i32]) {
+    printing::byte(b' ');
+    if xs.len() == 0 {
+        return printing::byte(b'-');
+    }
+    printing::signed_entry(xs[0]);
+    let mut i = 1;
+    while i < xs.len() {
+        printing::byte(b',');
+        printing::signed_entry(xs[i]);
+        i += 1;
+    }
+}
+
 // A space and the 16 hexadecimal digits of a ratio's bits.
 pub fn next_bits(bits: u64) {
     printing::byte(b' ');

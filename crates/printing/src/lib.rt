@@ -1,4 +1,6 @@
 // Text on standard output, written at once. What cannot be written is lost: a program has nobody to tell.
+ghost use mathlib.Core.Path.{_≡_};
+ghost use lib.IntN.{natAbs};
 
 // The bytes of s.
 pub fn text(s: &[u8]) {
@@ -29,6 +31,25 @@ pub fn entry(x: u16) {
 
 pub fn next_entry(x: u16) {
     next(x as u32);
+}
+
+// How far a signed number is from 0. In 64 bits the least number of 32 has its opposite.
+fn size(x: i32) -> u64
+    ensures { λ r. ⌜ r ≡ natAbs x ⌝ }
+{
+    let wide = x as i64;
+    if wide < 0 {
+        return (0 - wide) as u64;
+    }
+    wide as u64
+}
+
+// A signed entry: a dash where it is below 0, and decimal digits.
+pub fn signed_entry(x: i32) {
+    if x < 0 {
+        byte(b'-');
+    }
+    io::print_decimal(1, size(x));
 }
 
 // A refusal: its number, and its row if it has one.

@@ -23,14 +23,8 @@ no-call-requires c κs = tt
 returns : tie.Need-returns
 returns c = tt
 
-lent-requires : tie.Need-lent-requires
-lent-requires c κs = tt
-
-word-requires-2 : tie.Need-word-requires-2
-word-requires-2 c κs = tt
-
-bytes-requires : tie.Need-bytes-requires
-bytes-requires c κs = tt
+lend-requires : tie.Need-lend-requires
+lend-requires c κs = tt
 
 no-call-requires-2 : tie.Need-no-call-requires-2
 no-call-requires-2 c κs = tt
@@ -69,9 +63,7 @@ answer-spec =
     words-requires
     no-call-requires
     returns
-    lent-requires
-    word-requires-2
-    bytes-requires
+    lend-requires
     no-call-requires-2
     same-length
     returns-2

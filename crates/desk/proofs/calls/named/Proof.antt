@@ -88,9 +88,17 @@ returns-15 c = at-place 14 _ (sym (c .before .place .ensures) ∙ c .match .keys
 
 returns-16 : tie.Need-returns-16
 unfolding names pieces calls
-returns-16 c =
+returns-16 c = at-place 15 _ (sym (c .before .place .ensures) ∙ c .match .keys16)
+
+returns-17 : tie.Need-returns-17
+unfolding names pieces calls
+returns-17 c = at-place 16 _ (sym (c .before .place .ensures) ∙ c .match .keys17)
+
+returns-18 : tie.Need-returns-18
+unfolding names pieces calls
+returns-18 c =
     let k = c .before .place .result in
-    sym (List·getD-eq-default calls NoCall {n = k} (past k 15 (c .match .rest))) ∙ at-place k _ (sym (c .before .place .ensures))
+    sym (List·getD-eq-default calls NoCall {n = k} (past k 17 (c .match .rest))) ∙ at-place k _ (sym (c .before .place .ensures))
 
 pub named-spec : {M : Type 1} → statement M
 named-spec =
@@ -112,4 +120,6 @@ named-spec =
     returns-13
     returns-14
     returns-15
-    returns-16)
+    returns-16
+    returns-17
+    returns-18)

@@ -52,6 +52,12 @@ enum-told-15 c = search needs
 enum-told-16 : tie.Need-enum-told-16
 enum-told-16 c = search needs
 
+enum-told-17 : tie.Need-enum-told-17
+enum-told-17 c = search needs
+
+enum-told-18 : tie.Need-enum-told-18
+enum-told-18 c = search needs
+
 returns : tie.Need-returns
 unfolding wordsOf
 returns c = rw (c .enum-told .given .1)
@@ -116,6 +122,14 @@ returns-16 : tie.Need-returns-16
 unfolding wordsOf
 returns-16 c = rw (c .enum-told16 .given .1)
 
+returns-17 : tie.Need-returns-17
+unfolding wordsOf
+returns-17 c = rw (c .enum-told17 .given .1)
+
+returns-18 : tie.Need-returns-18
+unfolding wordsOf
+returns-18 c = rw (c .enum-told18 .given .1)
+
 pub words-spec : {M : Type 1} → statement M
 words-spec =
     tie.close
@@ -136,6 +150,8 @@ words-spec =
     enum-told-14
     enum-told-15
     enum-told-16
+    enum-told-17
+    enum-told-18
     returns
     returns-2
     returns-3
@@ -151,4 +167,6 @@ words-spec =
     returns-13
     returns-14
     returns-15
-    returns-16)
+    returns-16
+    returns-17
+    returns-18)

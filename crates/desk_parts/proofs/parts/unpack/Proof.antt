@@ -7,14 +7,26 @@ use Rattle.desk_parts.proofs.Fit.{all-fit}
 use Rattle.desk_parts.proofs.parts.unpack.Statement.{statement}
 use Rattle.desk_parts.proofs.parts.unpack.Tie as tie
 
+word-requires : tie.Need-word-requires
+word-requires c κs = tt
+
+list-requires : tie.Need-list-requires
+list-requires c κs = tt
+
+no-call-requires : tie.Need-no-call-requires
+no-call-requires c κs = tt
+
+same-length : tie.Need-same-length
+same-length c = search needs
+
+returns : tie.Need-returns
+returns c = tt
+
 for-list-requires : tie.Need-for-list-requires
 for-list-requires c κs = tt
 
 for-list-requires-2 : tie.Need-for-list-requires-2
 for-list-requires-2 c κs = tt
-
-for-list-requires-3 : tie.Need-for-list-requires-3
-for-list-requires-3 c κs = tt
 
 for-bytes-requires : tie.Need-for-bytes-requires
 for-bytes-requires c κs = tt
@@ -22,20 +34,11 @@ for-bytes-requires c κs = tt
 for-bytes-requires-2 : tie.Need-for-bytes-requires-2
 for-bytes-requires-2 c κs = tt
 
-word-requires : tie.Need-word-requires
-word-requires c κs = tt
-
-slice-aggregate-list : tie.Need-slice-aggregate-list
-slice-aggregate-list c = search needs
-
-list-requires : tie.Need-list-requires
-list-requires c κs = tt
-
 word-requires-2 : tie.Need-word-requires-2
 word-requires-2 c κs = tt
 
-slice-aggregate-list-2 : tie.Need-slice-aggregate-list-2
-slice-aggregate-list-2 c = search needs
+slice-aggregate-list : tie.Need-slice-aggregate-list
+slice-aggregate-list c = search needs
 
 list-requires-2 : tie.Need-list-requires-2
 list-requires-2 c κs = tt
@@ -43,8 +46,8 @@ list-requires-2 c κs = tt
 word-requires-3 : tie.Need-word-requires-3
 word-requires-3 c κs = tt
 
-slice-aggregate-list-3 : tie.Need-slice-aggregate-list-3
-slice-aggregate-list-3 c = search needs
+slice-aggregate-list-2 : tie.Need-slice-aggregate-list-2
+slice-aggregate-list-2 c = search needs
 
 list-requires-3 : tie.Need-list-requires-3
 list-requires-3 c κs = tt
@@ -70,120 +73,124 @@ bytes-requires-2 c κs = tt
 fit-requires : tie.Need-fit-requires
 fit-requires c κs = tt
 
-array-borrow-prefix-left : tie.Need-array-borrow-prefix-left
-array-borrow-prefix-left c =
-    let p = c in
-    let h = (all-fit _ _ _ _ _ (sym (p .before .fit .ensures) ∙ p .if1 .taken)) .left in
-    let q = p .before .before .before .before .before .before .before .before .before .before in
-    let r = q .before .before .before .before .before .before .before .before .before in
-    omega (arith, h, r .list, r .before .before .before .before .before .before .before .for-list)
+slice-relend-prefix-unpack-into : tie.Need-slice-relend-prefix-unpack-into
+slice-relend-prefix-unpack-into c =
+    let q = c .before .before .before .before .before .before .before .before .before .before .before .before in
+    let r = q .before .before .before .before .before .before .before .before .before .before in
+    omega (arith, r .if1, r .before .before .before .list)
 
 slice-aggregate-unpack-into : tie.Need-slice-aggregate-unpack-into
 slice-aggregate-unpack-into c =
-    let p = c .before in
-    let h = (all-fit _ _ _ _ _ (sym (p .before .fit .ensures) ∙ p .if1 .taken)) .left in
-    let q = p .before .before .before .before .before .before .before .before .before .before in
-    let r = q .before .before .before .before .before .before .before .before .before in
-    let made = r .before .before .before .before .before .before .before in
-    sym (length-take-le _ _ (omega (arith, h, r .list, made .for-list)))
+    let q = c .before .before .before .before .before .before .before .before .before .before .before .before .before in
+    let r = q .before .before .before .before .before .before .before .before .before .before in
+    sym (length-take-le _ _ (omega (arith, r .if1, r .before .before .before .list)))
 
 array-borrow-prefix-right : tie.Need-array-borrow-prefix-right
 array-borrow-prefix-right c =
     let p = c .before in
-    let h = (all-fit _ _ _ _ _ (sym (p .before .fit .ensures) ∙ p .if1 .taken)) .right in
-    let q = p .before .before .before .before .before .before .before .before .before .before in
-    let r = q .before .before .before .before .before in
-    omega (arith, h, r .list2, r .before .before .before .before .before .before .before .before .before .before .for-list2)
+    let h = (all-fit _ _ _ _ (sym (p .before .fit .ensures) ∙ p .if2 .taken)) .right in
+    let r = p .before .before .before .before .before .before .before .before .before .before .before .before .before .before .before in
+    let m = r .before .before .before .before .before .before in
+    omega (arith, h, r .list2, m .for-list)
 
 slice-aggregate-unpack-into-2 : tie.Need-slice-aggregate-unpack-into-2
 slice-aggregate-unpack-into-2 c =
     let p = c .before .before in
-    let h = (all-fit _ _ _ _ _ (sym (p .before .fit .ensures) ∙ p .if1 .taken)) .right in
-    let q = p .before .before .before .before .before .before .before .before .before .before in
-    let r = q .before .before .before .before .before in
-    let made = r .before .before .before .before .before .before .before .before .before .before in
-    sym (length-take-le _ _ (omega (arith, h, r .list2, made .for-list2)))
+    let h = (all-fit _ _ _ _ (sym (p .before .fit .ensures) ∙ p .if2 .taken)) .right in
+    let r = p .before .before .before .before .before .before .before .before .before .before .before .before .before .before .before in
+    let m = r .before .before .before .before .before .before in
+    sym (length-take-le _ _ (omega (arith, h, r .list2, m .for-list)))
 
 array-borrow-prefix-links : tie.Need-array-borrow-prefix-links
 array-borrow-prefix-links c =
     let p = c .before .before in
-    let h = (all-fit _ _ _ _ _ (sym (p .before .fit .ensures) ∙ p .if1 .taken)) .links in
+    let h = (all-fit _ _ _ _ (sym (p .before .fit .ensures) ∙ p .if2 .taken)) .links in
     let r = p .before .before .before .before .before .before .before .before .before .before .before in
-    let m = r .before .before .before .before .before .before .before .before .before .before in
-    omega (arith, h, r .list3, m .before .before .before .for-list3)
+    let m = r .before .before .before .before .before .before .before .before .before in
+    omega (arith, h, r .list3, m .for-list2)
 
 slice-aggregate-unpack-into-3 : tie.Need-slice-aggregate-unpack-into-3
 slice-aggregate-unpack-into-3 c =
     let p = c .before .before .before in
-    let h = (all-fit _ _ _ _ _ (sym (p .before .fit .ensures) ∙ p .if1 .taken)) .links in
+    let h = (all-fit _ _ _ _ (sym (p .before .fit .ensures) ∙ p .if2 .taken)) .links in
     let r = p .before .before .before .before .before .before .before .before .before .before .before in
-    let m = r .before .before .before .before .before .before .before .before .before .before in
-    let made = m .before .before .before in
-    sym (length-take-le _ _ (omega (arith, h, r .list3, made .for-list3)))
+    let m = r .before .before .before .before .before .before .before .before .before in
+    sym (length-take-le _ _ (omega (arith, h, r .list3, m .for-list2)))
 
 array-borrow-prefix-leftlay : tie.Need-array-borrow-prefix-leftlay
 array-borrow-prefix-leftlay c =
     let p = c .before .before .before in
-    let h = (all-fit _ _ _ _ _ (sym (p .before .fit .ensures) ∙ p .if1 .taken)) .leftlay in
+    let h = (all-fit _ _ _ _ (sym (p .before .fit .ensures) ∙ p .if2 .taken)) .leftlay in
     let r = p .before .before .before .before .before .before .before in
-    let m = r .before .before .before .before .before .before .before .before .before .before in
-    omega (arith, h, r .bytes, m .before .before .before .before .before .before .for-bytes)
+    let m = r .before .before .before .before .before .before .before .before .before .before .before .before in
+    omega (arith, h, r .bytes, m .for-bytes)
 
 slice-aggregate-unpack-into-4 : tie.Need-slice-aggregate-unpack-into-4
 slice-aggregate-unpack-into-4 c =
     let p = c .before .before .before .before in
-    let h = (all-fit _ _ _ _ _ (sym (p .before .fit .ensures) ∙ p .if1 .taken)) .leftlay in
+    let h = (all-fit _ _ _ _ (sym (p .before .fit .ensures) ∙ p .if2 .taken)) .leftlay in
     let r = p .before .before .before .before .before .before .before in
-    let m = r .before .before .before .before .before .before .before .before .before .before in
-    let made = m .before .before .before .before .before .before in
-    sym (length-take-le _ _ (omega (arith, h, r .bytes, made .for-bytes)))
+    let m = r .before .before .before .before .before .before .before .before .before .before .before .before in
+    sym (length-take-le _ _ (omega (arith, h, r .bytes, m .for-bytes)))
 
 array-borrow-prefix-rightlay : tie.Need-array-borrow-prefix-rightlay
 array-borrow-prefix-rightlay c =
     let p = c .before .before .before .before in
-    let h = (all-fit _ _ _ _ _ (sym (p .before .fit .ensures) ∙ p .if1 .taken)) .rightlay in
+    let h = (all-fit _ _ _ _ (sym (p .before .fit .ensures) ∙ p .if2 .taken)) .rightlay in
     let r = p .before .before .before in
-    let m = r .before .before .before .before .before .before .before .before .before .before in
-    omega (arith, h, r .bytes2, m .before .before .before .before .before .before .before .before .before .for-bytes2)
+    let m = r .before .before .before .before .before .before .before .before .before .before .before .before .before .before .before in
+    omega (arith, h, r .bytes2, m .for-bytes2)
 
 slice-aggregate-unpack-into-5 : tie.Need-slice-aggregate-unpack-into-5
 slice-aggregate-unpack-into-5 c =
     let p = c .before .before .before .before .before in
-    let h = (all-fit _ _ _ _ _ (sym (p .before .fit .ensures) ∙ p .if1 .taken)) .rightlay in
+    let h = (all-fit _ _ _ _ (sym (p .before .fit .ensures) ∙ p .if2 .taken)) .rightlay in
     let r = p .before .before .before in
-    let m = r .before .before .before .before .before .before .before .before .before .before in
-    let made = m .before .before .before .before .before .before .before .before .before in
-    sym (length-take-le _ _ (omega (arith, h, r .bytes2, made .for-bytes2)))
+    let m = r .before .before .before .before .before .before .before .before .before .before .before .before .before .before .before in
+    sym (length-take-le _ _ (omega (arith, h, r .bytes2, m .for-bytes2)))
 
 unpack-into-requires : tie.Need-unpack-into-requires
 unpack-into-requires c κs = tt
 
-returns : tie.Need-returns
-returns c = tt
-
-no-call-requires : tie.Need-no-call-requires
-no-call-requires c κs = tt
+same-length-2 : tie.Need-same-length-2
+same-length-2 c =
+    let p = c .before .before .before .before .before .before .before .before .before .before .before .before in
+    let q = p .before .before .before .before .before .before .before .before .before .before .before .before in
+    let r = q .before .before .before .before .before .before .before .before .before .before in
+    omega (arith, c .before .before .before .before .before .before .unpack-into, r .if1, r .before .before .before .list)
 
 returns-2 : tie.Need-returns-2
 returns-2 c = tt
+
+no-call-requires-2 : tie.Need-no-call-requires-2
+no-call-requires-2 c κs = tt
+
+same-length-3 : tie.Need-same-length-3
+same-length-3 c =
+    let q = c .before .before .before .before .before .before .before .before .before .before .before .before .before in
+    omega (arith, q .before .before .before .before .before .before .before .before .before .before .before .before .before .list)
+
+returns-3 : tie.Need-returns-3
+returns-3 c = tt
 
 pub unpack-spec : {M : Type 1} → statement M
 unpack-spec =
     tie.close
     (tie.spec
+    word-requires
+    list-requires
+    no-call-requires
+    same-length
+    returns
     for-list-requires
     for-list-requires-2
-    for-list-requires-3
     for-bytes-requires
     for-bytes-requires-2
-    word-requires
-    slice-aggregate-list
-    list-requires
     word-requires-2
-    slice-aggregate-list-2
+    slice-aggregate-list
     list-requires-2
     word-requires-3
-    slice-aggregate-list-3
+    slice-aggregate-list-2
     list-requires-3
     word-requires-4
     slice-aggregate-bytes
@@ -192,7 +199,7 @@ unpack-spec =
     slice-aggregate-bytes-2
     bytes-requires-2
     fit-requires
-    array-borrow-prefix-left
+    slice-relend-prefix-unpack-into
     slice-aggregate-unpack-into
     array-borrow-prefix-right
     slice-aggregate-unpack-into-2
@@ -203,6 +210,8 @@ unpack-spec =
     array-borrow-prefix-rightlay
     slice-aggregate-unpack-into-5
     unpack-into-requires
-    returns
-    no-call-requires
-    returns-2)
+    same-length-2
+    returns-2
+    no-call-requires-2
+    same-length-3
+    returns-3)
