@@ -1,8 +1,12 @@
 -- The calls of the desk: the name of each, how many words its line has, and which of them says the bytes that it is lent.
 use Prim.Native.Nat.{ℕ}
+use mathlib.Core.Bool.{cond}
 use mathlib.Core.List.{List, [], _∷_}
+use mathlib.Core.Option.{Option, some}
+use lib.Dec.{eqb}
 use lib.ListN.{getD}
-use Rattle.desk_words.specs.Words.{placeOf}
+use Rattle.desk_words.specs.Words.{placeOf, wordIn}
+use Rattle.desk_words.specs.Bytes.{bytesIn}
 use Rattle.desk.specs.declared.calls.Call.{Call}
 use Rattle.desk.specs.declared.calls.Call.the-variants.{Check, Order, Count, Pairs, Entanglement, Free, Run}
 use Rattle.desk.specs.declared.calls.Call.the-variants.{Hands, Better, BetterCheck, Hold, Pack, Unpack}
@@ -82,3 +86,7 @@ lentBy NewickWrite = 1
 lentBy MergeRead = 0
 lentBy MergeWrite = 1
 lentBy NoCall = 1
+
+-- The bytes that a line says its call is lent.
+unfoldable pub lentIn : Call → List ℕ → Option (List ℕ)
+lentIn call line = cond (eqb (lentBy call) 0) (some []) (bytesIn (wordIn line (lentBy call)))

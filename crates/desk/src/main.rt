@@ -15,6 +15,8 @@ use desk_words::spelling::no_call;
 use desk_words::words::count;
 use desk_words::words::upto;
 use desk_words::words::word;
+ghost use Rattle.desk.specs.Calls.{lentIn};
+ghost use Rattle.desk_words.specs.Puts.{Puts};
 
 // The bytes of input that are answered.
 const MOST: usize = 1048576;
@@ -52,7 +54,9 @@ fn make(call: Call, line: &[u8], s: &mut [u8], xs: &mut [u16]) {
 
 // Puts the bytes that a call is lent into s, and answers how many: none where the call is lent none, more than there is
 // room for where its word says no bytes.
-fn lend(call: Call, line: &[u8], s: &mut [u8]) -> usize {
+fn lend(call: Call, line: &[u8], s: &mut [u8]) -> usize
+    ensures { λ r. ⌜ Puts (lentIn call (now (line .entry))) (now (s .entry)) r (now (s .exit)) ⌝ }
+{
     let k = lent(call);
     if k == 0 {
         return 0;

@@ -1,6 +1,6 @@
 mod Parting
 mod Reading
-mod Filling
+pub mod Filling
 mod Pairing
 mod Listing
 mod Handing
