@@ -28,7 +28,7 @@ use Rattle.record_fields.proofs.Meaning.{left-rule, right-rule}
 use Rattle.record_fields.proofs.Refused.{lent-refused, lent-accepted}
 use Rattle.record_fields.proofs.Stores.{sets-front, getD-made, length-numbers}
 use Rattle.record_fields.proofs.Told.{told-none, alone-when, alone-0, own-when, own-then}
-use Rattle.record_arrays.specs.Sides.{isSide, sideOf, rowsAt, RecordOver}
+use Rattle.record_arrays.specs.Sides.{isSide, sideOf, rowsAt}
 use Rattle.calls_merge.specs.Refusals.{writtenTable, mergeWriteRefusal}
 use Rattle.calls_merge.specs.Calls.{MergeWrites}
 
@@ -115,5 +115,7 @@ module _ (s : List ℕ) (side : ℕ) (out : List ℤ) where
       let fits : length (writtenTable s side) ≤ length out = omega (arith, length-written s side, good .2) in
       record {
         answers = t ∙ told-none (parts s) a;
-        afterwards = w ∙ sets-front out (writtenTable s side) fits ∙ lent-accepted (mergeWriteRefusal s side out) (writtenTable s side) out a;
+        afterwards =
+            w ∙ sets-front out (writtenTable s side) fits
+            ∙ lent-accepted (mergeWriteRefusal s side out) (writtenTable s side) out a;
       }

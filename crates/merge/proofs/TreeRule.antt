@@ -2,11 +2,11 @@
 use Prim.Native.Nat.{ℕ, zero, suc, pred, _+_, _-_, _*_, _≤_, _<_}
 use mathlib.Core.Path.{_≡_, refl, sym, ap, _∙_}
 use mathlib.Core.Logic.{_≢_, _⊎_, inl, inr}
-use mathlib.Core.Bool.{Bool, true, false, true≢false}
+use mathlib.Core.Bool.{Bool, true, false}
 use mathlib.Core.List.{List}
 use native.Mathlib.Decide.{ℕ-discrete}
 use native.Mathlib.Omega.{arith}
-use lib.IntN.{ℤ, pos}
+use lib.IntN.{ℤ}
 use lib.ListN.{length, getD, length-map}
 use Rattle.tanglegram.specs.Lists.{Each}
 use Rattle.tanglegram.specs.Tree.{used, Row, Rule}
@@ -148,7 +148,8 @@ module _ (n : ℕ) (table : List ℤ) (pairs : Pairs n table) where
 
 -- ---- the table of rows that keep the rule
 
-module _ (n : ℕ) (rows : List ℕ) (some : 1 ≤ n) (most : n ≤ 512) (long : length rows ≡ 2 * (n - 1)) (rule : Rule n (upper rows) (lower rows)) where
+module _ (n : ℕ) (rows : List ℕ) (some : 1 ≤ n) (most : n ≤ 512) (long : length rows ≡ 2 * (n - 1))
+    (rule : Rule n (upper rows) (lower rows)) where
   pub written-pairs : Pairs n (tableFor n rows)
   unfolding tableFor
   written-pairs = record { some = some; most = most; long = length-map rows (entryFor n) ∙ long }

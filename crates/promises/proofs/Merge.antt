@@ -1,5 +1,5 @@
 -- What the calls on merge tables keep: reading and its refusals, writing, and there and back.
-use Prim.Native.Nat.{ℕ, suc, _-_, _*_, _≤_, _<_}
+use Prim.Native.Nat.{ℕ, _-_, _*_, _≤_, _<_}
 use mathlib.Core.Path.{_≡_, refl, sym, ap, subst, _∙_}
 use mathlib.Core.Logic.{_≢_, _↔_, _⊎_, inl, inr}
 use mathlib.Core.Bool.{Bool, true, false, not, true≢false, _||_}
@@ -11,13 +11,12 @@ use lib.Dec.{eqb, ltb}
 use lib.IntN.{ℤ, pos}
 use lib.ListN.{length, getD, take, drop}
 use lib.Seq.{take-at, drop-at, getD-take}
-use Rattle.tanglegram.specs.Tree.{Rule}
 use Rattle.work_trees.specs.Rows.{upper, lower}
 use Rattle.merge.specs.Entries.{Names, namedBy}
 use Rattle.merge.specs.Tables.{rowsIn, tableFor, someNone, twice, Pairs, EntryNone, EntryTwice}
-use Rattle.merge.proofs.Tables.{length-rows, row-entry, table-entry, place-named, none-where, named-nowhere, table-back, rows-back}
+use Rattle.merge.proofs.Tables.{length-rows, row-entry, place-named, none-where, named-nowhere, table-back, rows-back}
 use Rattle.merge.proofs.Twice.{twice-where, twice-apart}
-use Rattle.merge.proofs.TreeRule.{tests-rule, rule-named, rule-once, written-pairs, written-named, written-once}
+use Rattle.merge.proofs.TreeRule.{tests-rule, rule-named, rule-once, written-pairs, written-named}
 use Rattle.record_fields.specs.declared.refusal.Refusal.{Refusal}
 use Rattle.record_fields.specs.Fields.{sizeOf, lengthOf, Parts, parts, packed}
 use Rattle.record_fields.specs.Meaning.{rowsOn}
@@ -31,7 +30,8 @@ use Rattle.record_fields.proofs.Refused.{lent-accepted}
 use Rattle.record_arrays.specs.Sides.{isSide, sideOf}
 use Rattle.calls_merge.specs.Refusals.{mergeReadRefusal, writtenTable, mergeWriteRefusal}
 use Rattle.calls_merge.specs.Calls.{MergeReads, MergeWrites}
-use Rattle.calls_merge.proofs.TableRead.{reading-5, reading-6, pairs, reading-20, reading-21, reading-14, reading-0, GoodTable, reading-good}
+use Rattle.calls_merge.proofs.TableRead.{reading-5, reading-6, pairs, reading-20, reading-21, reading-14, reading-0}
+use Rattle.calls_merge.proofs.TableRead.{GoodTable, reading-good}
 use Rattle.record_packing.specs.Refusals.{shapeRefusal, packRefusal}
 use Rattle.record_packing.specs.Calls.{Packs}
 use Rattle.record_packing.proofs.Packed.{shape-good, packing-good, length-packed}
@@ -39,8 +39,8 @@ use Rattle.record_packing.proofs.RoundTrip.{size-packed, parts-packed, packed-a
 use Rattle.promises.proofs.RoundTrip.{left-packed}
 use Rattle.calls_merge.proofs.SideWritten.{merging-0, merging-good, length-given, given-rule, length-written}
 use Rattle.work_tree_rule.proofs.Rule.{bad-row-none}
-use Rattle.promises.specs.Merge.{packRefusalButRows, Merge}
-use Rattle.promises.specs.Merge.{Tells, tells-5, tells-6, tells-20, tells-21, tells-14, tells-0, KeepsRule, TableReading, TableWriting}
+use Rattle.promises.specs.Merge.{Tells, tells-5, tells-6, tells-20, tells-21, tells-14, tells-0}
+use Rattle.promises.specs.Merge.{KeepsRule, TableReading, TableWriting, packRefusalButRows, Merge}
 
 -- ---- when each number is told
 
@@ -317,7 +317,8 @@ module _ (n : ℕ) (table : List ℤ) (out : List ℕ) (read : Refusal) (out′ 
 
 -- two lists of tests, one after the other, are one list, and none of it comes with a row
 abbrev oneList : Bool → Bool → Bool → Bool → Bool → Bool → Bool → Bool → ℕ
-oneList a b c d e f g h = 4 when a else 6 when b else 6 when c else 6 when d else 9 when e else 10 when f else 10 when g else 14 when h else 0
+oneList a b c d e f g h =
+    4 when a else 6 when b else 6 when c else 6 when d else 9 when e else 10 when f else 10 when g else 14 when h else 0
 
 one-list : (a b c d e f g h : Bool) →
     orElse (4 when a else 6 when b else 6 when c else 6 when d else 0)

@@ -5,7 +5,7 @@ use mathlib.Core.Bool.{true}
 use mathlib.Core.List.{List, [], _∷_}
 use mathlib.Core.Logic.{_≢_}
 use native.Mathlib.Omega.{arith}
-use lib.ListN.{length, getD, set, take, drop, length-set}
+use lib.ListN.{length, set, take, drop, length-set}
 use lib.Seq.{getD-set-same, getD-set-other}
 use Rattle.record_fields.specs.Fields.{two, numbers, bytes, holdAt, sizeOf, rightAt, linksAt, leftLayoutAt, rightLayoutAt}
 use Rattle.record_fields.specs.Fields.{lengthOf, Parts, given, partsOf, parts}

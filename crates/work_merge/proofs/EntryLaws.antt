@@ -2,10 +2,10 @@
 use Prim.Native.Nat.{ℕ, zero, suc, _+_, _≤_, _<_}
 use mathlib.Core.Path.{_≡_, refl, sym, ap, _∙_}
 use mathlib.Core.Logic.{_≢_}
-use mathlib.Core.Bool.{Bool, true, false, true≢false, _||_}
+use mathlib.Core.Bool.{true, false, true≢false}
 use native.Mathlib.Omega.{arith}
 use borrow.Author.Tests.{le-leb, leb-false, ltb-true, ltb-false, ne-eqb, lt-ltb}
-use lib.Dec.{T, eqb, leb, ltb}
+use lib.Dec.{T, eqb, leb}
 use lib.IntN.{ℤ, pos, negsuc, negℤ, natAbs, _-ℤ_, +ℤ-idl}
 use lib.Signed.{ltZ, leZ, nonNeg}
 use Rattle.tanglegram.proofs.Bools.{or-neither}

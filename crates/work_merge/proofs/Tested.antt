@@ -1,5 +1,5 @@
 -- The first test of a table, row after row: what is true before the first row, from row to row, and where the test ends.
-use Prim.Native.Nat.{ℕ, suc, pred, _+_, _-_, _≤_, _<_}
+use Prim.Native.Nat.{ℕ, suc, _+_, _-_, _≤_, _<_}
 use mathlib.Core.Path.{_≡_, refl, sym, ap, _∙_}
 use mathlib.Core.Bool.{Bool, true, false, or-true}
 use mathlib.Core.List.{List, _∷_}
@@ -39,7 +39,7 @@ module _ (n : ℕ) (table : List ℤ) where
     lower-none e h = sym (t .rest ∙ rw (rows-left, sym e ∙ h, or-true (namesNone n i (upperEntry table i))) refl)
 
     -- both name a leaf or an earlier row
-    pub tested-more : {b d : Bool} → b ≡ namesNone n i (upperEntry table i) → b ≡ false → d ≡ namesNone n i (lowerEntry table i) → d ≡ false →
-        Tested (i + 1)
+    pub tested-more : {b d : Bool} → b ≡ namesNone n i (upperEntry table i) → b ≡ false →
+        d ≡ namesNone n i (lowerEntry table i) → d ≡ false → Tested (i + 1)
     unfolding any
     tested-more e h f k = rw (add-one i) record { from = omega arith; rest = t .rest ∙ rw (rows-left, sym e ∙ h, sym f ∙ k) refl }

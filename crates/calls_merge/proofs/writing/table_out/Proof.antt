@@ -1,5 +1,5 @@
 -- `table_out`: number after number, the entry for it is stored.
-use Prim.Native.Nat.{_+_, _-_, _*_, _≤_, _<_}
+use Prim.Native.Nat.{ℕ, _+_, _-_, _*_, _≤_, _<_}
 use mathlib.Core.Path.{_≡_, sym, ap, _∙_}
 use native.Mathlib.Omega.{arith}
 use borrow.Author.Needs.{needs}
@@ -44,7 +44,8 @@ add-number : tie.Need-add-number Inv-loop μ-loop
 add-number c =
     let s = c .before .before .before .before in
     let within = rows-within _ _ (s .pre .0) (sideOf (s .args .side)) in
-    record { fits = omega (arith, within, c .before .before .rows-at .ensures, c .loop-test .taken, s .pre .0 .sized .whole, s .pre .0 .sized .most) }
+    let z = s .pre .0 .sized in
+    record { fits = omega (arith, within, c .before .before .rows-at .ensures, c .loop-test .taken, z .whole, z .most) }
 
 number-requires : tie.Need-number-requires Inv-loop μ-loop
 number-requires c κs =
@@ -73,8 +74,9 @@ loop-again c =
     let s = here .before .before .before .before in
     let table = writtenTable (s .args .s .now) (s .args .side) in
     let n = s .args .n in
+    let number-at : ℕ → ℕ = λ at. two (s .args .s .now) (at + 2 * l .k) in
     let entry = toZ-ofZ w32 (c .entry-for .result) (record { sfits = c .entry-for .ok }) ∙ c .entry-for .ensures
-    ∙ ap (entryFor n) (c .before .number .ensures ∙ ap (λ at. two (s .args .s .now) (at + 2 * l .k)) (here .before .before .rows-at .ensures))
+    ∙ ap (entryFor n) (c .before .number .ensures ∙ ap number-at (here .before .before .rows-at .ensures))
     ∙ sym (written-entry (s .args .s .now) (s .args .side) (s .pre .0 .sized .says) (l .k) (here .loop-test .taken)) in
     let fits : l .k < length table =
     omega (arith, length-written (s .args .s .now) (s .args .side), s .pre .0 .sized .says, here .loop-test .taken) in

@@ -1,6 +1,5 @@
 -- `entry_for`: a leaf's number is negated, and a row's object has its row's number.
 use mathlib.Core.Path.{refl, sym, _∙_}
-use native.Mathlib.Omega.{arith}
 use borrow.Author.Tests.{le-leb, lt-leb}
 use borrow.Author.Needs.{needs}
 use mir.Syntax.{w16}

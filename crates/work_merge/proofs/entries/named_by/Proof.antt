@@ -1,12 +1,11 @@
 -- `named_by`: a negative entry is negated, which gives its leaf; another names the object of a row.
-use Prim.Native.Nat.{ℕ, _+_, _<_}
-use mathlib.Core.Path.{_≡_, refl, sym, ap, _∙_}
-use mathlib.Core.Bool.{true, false}
+use Prim.Native.Nat.{_+_, _<_}
+use mathlib.Core.Path.{_≡_, sym, ap, _∙_}
 use native.Mathlib.Omega.{arith}
-use lib.IntN.{ℤ, pos, natAbs, _-ℤ_}
+use lib.IntN.{pos, natAbs, _-ℤ_}
 use lib.Signed.{ltZ}
-use mir.Syntax.{w16, w32}
-use mir.Val.{Fits, SFits, toZ, ofZ}
+use mir.Syntax.{w32}
+use mir.Val.{toZ, ofZ}
 use mir.ValLaws.{toZ-ofZ}
 use Rattle.merge.specs.Entries.{namedBy}
 use Rattle.work_merge.proofs.EntryLaws.{named-small, leaf-named, row-named}
@@ -41,7 +40,8 @@ returns : tie.Need-returns
 returns c = ap natAbs (leaf-read c)
 
 -- where it is not: its row
-row : (c : tie.Else1) → let s = c .before in s .args .n + natAbs (toZ w32 (ofZ w32 (s .args .entry))) ≡ namedBy (s .args .n) (s .args .entry)
+row : (c : tie.Else1) → let s = c .before in
+    s .args .n + natAbs (toZ w32 (ofZ w32 (s .args .entry))) ≡ namedBy (s .args .n) (s .args .entry)
 row c =
     let s = c .before in
     ap (λ z. s .args .n + natAbs z) (read s)

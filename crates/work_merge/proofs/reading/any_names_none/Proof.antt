@@ -43,14 +43,18 @@ upper-told : (c : tie.After-names-none Inv-loop μ-loop) → let l = c .before .
 upper-told c =
     let l = c .before .before .before in
     let from = l .loop .inv .from in
-    c .names-none .ensures ∙ ap (namesNone (l .before .args .n) (l .loop .i)) (read-at (l .before .args .table .now) (c .before .names-none-arg .given) (omega arith))
+    let table = l .before .args .table .now in
+    c .names-none .ensures
+    ∙ ap (namesNone (l .before .args .n) (l .loop .i)) (read-at table (c .before .names-none-arg .given) (omega arith))
 
 lower-told : (c : tie.After-names-none2 Inv-loop μ-loop) → let l = c .before .before .before .before .before .before in
     c .names-none2 .result ≡ namesNone (l .before .args .n) (l .loop .i) (lowerEntry (l .before .args .table .now) (l .loop .i))
 lower-told c =
     let l = c .before .before .before .before .before .before in
     let from = l .loop .inv .from in
-    c .names-none2 .ensures ∙ ap (namesNone (l .before .args .n) (l .loop .i)) (read-at (l .before .args .table .now) (c .before .names-none-arg2 .given) (omega arith))
+    let table = l .before .args .table .now in
+    c .names-none2 .ensures
+    ∙ ap (namesNone (l .before .args .n) (l .loop .i)) (read-at table (c .before .names-none-arg2 .given) (omega arith))
 
 returns : tie.Need-returns Inv-loop μ-loop
 returns c =
@@ -84,7 +88,8 @@ loop-again : tie.Need-loop-again Inv-loop μ-loop
 loop-again c =
     let e = c .before .before .before in
     let l = e .before .before .before in
-    tested-more _ _ (l .before .loop .inv) (l .loop-test .taken) (upper-told (e .before)) (e .if1 .left) (lower-told (c .before)) (c .if2 .left)
+    tested-more _ _ (l .before .loop .inv) (l .loop-test .taken) (upper-told (e .before)) (e .if1 .left) (lower-told (c .before))
+    (c .if2 .left)
 
 returns-3 : tie.Need-returns-3 Inv-loop μ-loop
 returns-3 c = tested-all _ _ (c .loop-test .left) (c .before .loop .inv)
