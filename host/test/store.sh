@@ -3,22 +3,21 @@
 # seed 7, which begin with both sides of every limit:
 # - of up to 260 bytes the first 7,780, which are all of those and a few at random;
 # - of up to 5,000 bytes the first four hand lists, of 1,024 and of 1,025 entries; seventeen texts read, of lengths and
-#   leaf numbers of hundreds of digits and with 511 and 512 groups open; ten written, of 9 to 100 leaves; five merge
+#   leaf numbers of hundreds of digits and with 511 and 512 groups open; seven written, of 9 to 99 leaves; five merge
 #   tables read over 512 and 513 leaves, refused for their first or last entry or their size; nine checks of 65 leaves
 #   with one link wrong; and one of each other call;
 # - of the longer ones, over 512 leaves, three checks and two packings, a bad row at either end among them; six texts
-#   read, with 511 and 512 groups open and of 512 and 513 leaves; three written, of deep and balanced trees, one with a
-#   byte too little room; three merge tables read and two written, one of each with a place too little room; and the
-#   first of each other call, but for the hold and the check of two orders, whose tests the other calls make too.
+#   read, with 511 and 512 groups open and of 512 and 513 leaves; two written, of a deep and of a balanced tree; three
+#   merge tables read and two written, one of each with a place too little room; and the first of each other call.
 # desk reads 1,048,576 bytes; ends with 1 if the calls are longer.
 . "$(dirname "$0")/../tools.sh"
 peer_cargo build
 "$peer" calls 7 20000 | LC_ALL=C awk '
   BEGIN {
-    middle["check"] = 9; middle["hands"] = 4; middle["newick_read"] = 17; middle["newick_write"] = 10
+    middle["check"] = 9; middle["hands"] = 4; middle["newick_read"] = 17; middle["newick_write"] = 7
     middle["merge_read"] = 5
-    long["check"] = 3; long["pack"] = 2; long["newick_read"] = 6; long["newick_write"] = 3
-    long["merge_read"] = 3; long["merge_write"] = 2; long["hold"] = long["better_check"] = 0
+    long["check"] = 3; long["pack"] = 2; long["newick_read"] = 6; long["newick_write"] = 2
+    long["merge_read"] = 3; long["merge_write"] = 2
   }
   length($0) <= 260 { if (++short <= 7780) print; next }
   $1 !~ /^[a-z_]+$/ { next }
