@@ -8,6 +8,7 @@ use native.Mathlib.Decide.{ℕ-discrete}
 use native.Mathlib.Omega.{arith}
 use lib.IntN.{ℤ}
 use lib.ListN.{length, getD, length-map}
+use Rattle.tanglegram.proofs.Bools.{must-pass, must-fail}
 use Rattle.tanglegram.specs.Lists.{Each}
 use Rattle.tanglegram.specs.Tree.{used, Row, Rule}
 use Rattle.work_trees.specs.Rows.{upper, lower}
@@ -87,15 +88,11 @@ module _ (n : ℕ) (table : List ℤ) (pairs : Pairs n table) where
   module _ (rule : Rule n up low) where
     -- an entry that names none would be an object that its row can't have
     in-reach : (i : ℕ) (e : ℤ) → 1 ≤ i → 1 ≤ namedBy n e → namedBy n e < n + i → namesNone n i e ≡ false
-    in-reach i e p least below = go (namesNone n i e) refl
+    in-reach i e p least below = must-fail (namesNone n i e) (λ h. outside (names-no n i p e h))
       where
-        no : (namedBy n e ≡ 0) ⊎ (n + i ≤ namedBy n e) → ⊥
-        no (inl z) = omega arith
-        no (inr l) = omega arith
-
-        go : (b : Bool) → namesNone n i e ≡ b → b ≡ false
-        go true h = absurd (no (names-no n i p e h))
-        go false h = refl
+        outside : (namedBy n e ≡ 0) ⊎ (n + i ≤ namedBy n e) → ⊥
+        outside (inl z) = omega arith
+        outside (inr l) = omega arith
 
     pub rule-named : someNone n table ≡ false
     unfolding someNone
@@ -140,11 +137,7 @@ module _ (n : ℕ) (table : List ℤ) (pairs : Pairs n table) where
   once-unbroken e = rule-once (bad-row-none n up low .0 e)
 
   pub twice-broken : someNone n table ≡ false → badRow n up low ≢ 0 → twice table ≡ true
-  twice-broken named o = go (twice table) refl
-    where
-      go : (b : Bool) → twice table ≡ b → b ≡ true
-      go true e = refl
-      go false e = absurd (o (bad-row-none n up low .1 (tests-rule named e)))
+  twice-broken named o = must-pass (twice table) (λ e. o (bad-row-none n up low .1 (tests-rule named e)))
 
 -- ---- the table of rows that keep the rule
 

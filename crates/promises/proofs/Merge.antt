@@ -11,6 +11,7 @@ use lib.Dec.{eqb, ltb}
 use lib.IntN.{ℤ, pos}
 use lib.ListN.{length, getD, take, drop}
 use lib.Seq.{take-at, drop-at, getD-take}
+use Rattle.tanglegram.proofs.Bools.{must-pass, must-fail}
 use Rattle.work_trees.specs.Rows.{upper, lower}
 use Rattle.merge.specs.Entries.{Names, namedBy}
 use Rattle.merge.specs.Tables.{rowsIn, tableFor, someNone, twice, Pairs, EntryNone, EntryTwice}
@@ -46,32 +47,16 @@ use Rattle.promises.specs.Merge.{KeepsRule, TableReading, TableWriting, 
 
 module _ (n : ℕ) (table : List ℤ) (out : List ℕ) where
   found-none : EntryNone n table → someNone n table ≡ true
-  found-none e = go (someNone n table) refl
-    where
-      go : (b : Bool) → someNone n table ≡ b → b ≡ true
-      go true h = refl
-      go false h = absurd (named-nowhere n table h e)
+  found-none e = must-pass (someNone n table) (λ h. named-nowhere n table h e)
 
   none-found : (EntryNone n table → ⊥) → someNone n table ≡ false
-  none-found nowhere = go (someNone n table) refl
-    where
-      go : (b : Bool) → someNone n table ≡ b → b ≡ false
-      go true h = absurd (nowhere (none-where n table h))
-      go false h = refl
+  none-found nowhere = must-fail (someNone n table) (λ h. nowhere (none-where n table h))
 
   found-twice : EntryTwice table → twice table ≡ true
-  found-twice e = go (twice table) refl
-    where
-      go : (b : Bool) → twice table ≡ b → b ≡ true
-      go true h = refl
-      go false h = absurd (twice-apart table h (e .place) (e .later) (e .apart .0) (e .apart .1) (e .alike))
+  found-twice e = must-pass (twice table) (λ h. twice-apart table h (e .place) (e .later) (e .apart .0) (e .apart .1) (e .alike))
 
   twice-found : (EntryTwice table → ⊥) → twice table ≡ false
-  twice-found nowhere = go (twice table) refl
-    where
-      go : (b : Bool) → twice table ≡ b → b ≡ false
-      go true h = absurd (nowhere (twice-where table h))
-      go false h = refl
+  twice-found nowhere = must-fail (twice table) (λ h. nowhere (twice-where table h))
 
   no-size : (n ≡ 0) ⊎ (512 < n) → noSize n ≡ true
   unfolding noSize
@@ -279,6 +264,19 @@ module _ (s : List ℕ) (side : ℕ) (out : List ℤ) (answer : Refusal) (out′
       .rule-kept (written-pairs n R (size-good .0) (size-good .1) long rule) .1 (kept, room) in
       (none, rows-are n (tableFor n R) buffer read after q none ∙ back)
 
+-- ---- the rows alone decide a table
+
+rows-alone : (s : List ℕ) (side : ℕ) (out : List ℤ) (answer : Refusal) (out′ : List ℤ) → MergeWrites s side out answer out′ →
+    answer .number ≡ 0 → (s₂ : List ℕ) (side₂ : ℕ) (out₂ : List ℤ) (answer₂ : Refusal) (out₂′ : List ℤ) →
+    MergeWrites s₂ side₂ out₂ answer₂ out₂′ → answer₂ .number ≡ 0 → sizeOf s₂ ≡ sizeOf s →
+    rowsOn (parts s₂) (sideOf side₂) ≡ rowsOn (parts s) (sideOf side) →
+    take (2 * (sizeOf s - 1)) out₂′ ≡ take (2 * (sizeOf s - 1)) out′
+unfolding writtenTable
+rows-alone s side out answer out′ o a s₂ side₂ out₂ answer₂ out₂′ o₂ a₂ size same-rows =
+    ap (λ m. take (2 * (m - 1)) out₂′) (sym size) ∙ table-is s₂ side₂ out₂ answer₂ out₂′ o₂ a₂
+    ∙ ap (λ m. tableFor m (rowsOn (parts s₂) (sideOf side₂))) size ∙ ap (tableFor (sizeOf s)) same-rows
+    ∙ sym (table-is s side out answer out′ o a)
+
 -- ---- a table read, packed and written
 
 good-side : (side : ℕ) → (side ≡ 1) ⊎ (side ≡ 2) → isSide side ≡ true
@@ -404,6 +402,7 @@ pub merge : Merge
 merge = record {
   reading = reading;
   writing = writing;
+  rows-alone = rows-alone;
   rows-back = λ s side out written out′ o a buffer room answer after r. read-back s side out written out′ o a buffer room answer after r;
   table-back = λ n table out read out′ o a P side size same-rows a-side buffer into buffer′ p none places room answer after w.
       written-back n table out read out′ o a P side size same-rows a-side buffer into buffer′ p none places room answer after w;

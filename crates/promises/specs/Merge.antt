@@ -83,6 +83,13 @@ pub record Merge : Type 0 where
       TableReading n table out answer out′
   pub writing : (s : List ℕ) (side : ℕ) (out : List ℤ) (answer : Refusal) (out′ : List ℤ) → MergeWrites s side out answer out′ →
       answer .number ≡ 0 → TableWriting s side out out′
+  -- The rows alone decide a table: two sides with the same rows are written alike, whatever their records' layouts, holds, links and other
+  -- sides are.
+  pub rows-alone : (s : List ℕ) (side : ℕ) (out : List ℤ) (answer : Refusal) (out′ : List ℤ) → MergeWrites s side out answer out′ →
+      answer .number ≡ 0 → (s₂ : List ℕ) (side₂ : ℕ) (out₂ : List ℤ) (answer₂ : Refusal) (out₂′ : List ℤ) →
+      MergeWrites s₂ side₂ out₂ answer₂ out₂′ → answer₂ .number ≡ 0 → sizeOf s₂ ≡ sizeOf s →
+      rowsOn (parts s₂) (sideOf side₂) ≡ rowsOn (parts s) (sideOf side) →
+      take (2 * (sizeOf s - 1)) out₂′ ≡ take (2 * (sizeOf s - 1)) out′
   -- "Rows to table and back gives the rows again": a side written, and its table read into a buffer with room.
   pub rows-back : (s : List ℕ) (side : ℕ) (out : List ℤ) (written : Refusal) (out′ : List ℤ) → MergeWrites s side out written out′ →
       written .number ≡ 0 → (buffer : List ℕ) → 2 * (sizeOf s - 1) ≤ length buffer → (answer : Refusal) (after : List ℕ) →

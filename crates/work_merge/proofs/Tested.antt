@@ -7,6 +7,7 @@ use native.Mathlib.Numerals.{add-one, sub-one}
 use native.Mathlib.Omega.{arith}
 use lib.IntN.{ℤ}
 use Rattle.tanglegram.specs.Lists.{range}
+use Rattle.work_tree_rule.proofs.Rule.{rows-from}
 use Rattle.merge.specs.Entries.{namesNone}
 use Rattle.merge.specs.Tables.{upperEntry, lowerEntry, any, rowNone, someNone}
 
@@ -25,21 +26,17 @@ module _ (n : ℕ) (table : List ℤ) where
   tested-all {i} h t = let e : n - i ≡ 0 = omega arith in sym (t .rest ∙ ap (λ m. any (rowNone n table) (range i m)) e)
 
   module _ {i : ℕ} (t : Tested i) (here : i < n) where
-    rows-left : range i (n - i) ≡ i ∷ range (suc i) (n - suc i)
-    unfolding range
-    rows-left = let e : n - i ≡ suc (n - suc i) = omega arith in ap (range i) e
-
     -- one of the row's entries names none
     pub upper-none : {b : Bool} → b ≡ namesNone n i (upperEntry table i) → b ≡ true → true ≡ someNone n table
     unfolding any
-    upper-none e h = sym (t .rest ∙ rw (rows-left, sym e ∙ h) refl)
+    upper-none e h = sym (t .rest ∙ rw (rows-from n i here, sym e ∙ h) refl)
 
     pub lower-none : {b : Bool} → b ≡ namesNone n i (lowerEntry table i) → b ≡ true → true ≡ someNone n table
     unfolding any
-    lower-none e h = sym (t .rest ∙ rw (rows-left, sym e ∙ h, or-true (namesNone n i (upperEntry table i))) refl)
+    lower-none e h = sym (t .rest ∙ rw (rows-from n i here, sym e ∙ h, or-true (namesNone n i (upperEntry table i))) refl)
 
     -- both name a leaf or an earlier row
     pub tested-more : {b d : Bool} → b ≡ namesNone n i (upperEntry table i) → b ≡ false →
         d ≡ namesNone n i (lowerEntry table i) → d ≡ false → Tested (i + 1)
     unfolding any
-    tested-more e h f k = rw (add-one i) record { from = omega arith; rest = t .rest ∙ rw (rows-left, sym e ∙ h, sym f ∙ k) refl }
+    tested-more e h f k = rw (add-one i) record { from = omega arith; rest = t .rest ∙ rw (rows-from n i here, sym e ∙ h, sym f ∙ k) refl }

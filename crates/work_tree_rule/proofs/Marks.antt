@@ -17,6 +17,7 @@ use Rattle.tanglegram.specs.Tree.{used}
 use Rattle.work_tree_rule.specs.Rule.{among, first, wrong, breaks, badRow}
 use Rattle.work_tree_rule.specs.Marks.{usedBy, refusedBy, brokenBy}
 use Rattle.tanglegram.proofs.Bools.{or-neither}
+use Rattle.work_tree_rule.proofs.Rule.{rows-from}
 
 -- marks stand at the entries of xs, and nowhere else
 pub record Marks (marks xs : List ℕ) : Type 0 where
@@ -97,10 +98,6 @@ module _ (n : ℕ) (up low : ℕ → ℕ) where
       go (no d) = rw (m .right v (omega arith)) refl
 
   module _ (marks : List ℕ) (i : ℕ) (k : Checked marks i) (here : i < n) (most : n ≤ 512) where
-    rows-left : range i (n - i) ≡ i ∷ range (suc i) (n - suc i)
-    unfolding range
-    rows-left = let e : n - i ≡ suc (n - suc i) = omega arith in ap (range i) e
-
     -- the test of row i by the marks is the rule's
     row-test : brokenBy marks (n + i) (up i) (low i) ≡ breaks n up low i
     row-test =
@@ -116,7 +113,7 @@ module _ (n : ℕ) (up low : ℕ → ℕ) where
       -- a row that breaks the rule is the lowest that does
       pub bad-here : r ≡ true → i ≡ badRow n up low
       unfolding first
-      bad-here e = sym (k .rest ∙ rw (rows-left, sym tells ∙ e) refl)
+      bad-here e = sym (k .rest ∙ rw (rows-from n i here, sym tells ∙ e) refl)
 
       -- a row that keeps it has its entries marked
       pub checked-more : (marks′ : List ℕ) → marks′ ≡ cond r marks (set (set marks b 1) a 1) → r ≡ false → Checked marks′ (i + 1)
@@ -129,5 +126,5 @@ module _ (n : ℕ) (up low : ℕ → ℕ) where
           rw (m ∙ ap (λ x. cond x marks (set (set marks b 1) a 1)) e, add-one i) record {
             from = omega arith;
             marks-right = rw (used-row up low i (k .from), ← is-upper, ← is-lower) two;
-            rest = k .rest ∙ rw (rows-left, sym tells ∙ e) refl;
+            rest = k .rest ∙ rw (rows-from n i here, sym tells ∙ e) refl;
           }

@@ -1,7 +1,7 @@
 -- The test of the tree rule is the rule: no row is bad exactly if all rows keep it, and otherwise the lowest bad row breaks it and no
 -- earlier row does.
-use Prim.Native.Nat.{ℕ, zero, suc, pred, _+_, _≤_, _<_}
-use mathlib.Core.Path.{_≡_, refl, sym, _∙_}
+use Prim.Native.Nat.{ℕ, zero, suc, pred, _+_, _-_, _≤_, _<_}
+use mathlib.Core.Path.{_≡_, refl, sym, ap, _∙_}
 use mathlib.Core.Bool.{Bool, true, false, cond, _||_, true≢false}
 use mathlib.Core.Logic.{_≢_, _↔_}
 use mathlib.Core.List.{List, [], _∷_}
@@ -28,6 +28,12 @@ none-among : (v : ℕ) (xs : List ℕ) → Each (λ k. v ≢ k) xs → among v x
 unfolding among
 none-among v [] p = refl
 none-among v (x ∷ xs) p = rw (ne-eqb v x (p .0)) (none-among v xs (p .1))
+
+-- ---- the rows from row i on: row i, and those after it
+
+pub rows-from : (n i : ℕ) → i < n → range i (n - i) ≡ i ∷ range (suc i) (n - suc i)
+unfolding range
+rows-from n i here = let e : n - i ≡ suc (n - suc i) = omega arith in ap (range i) e
 
 -- ---- the first that passes a test
 
