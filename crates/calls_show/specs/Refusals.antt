@@ -1,5 +1,5 @@
--- The refusals of asking for an order, in their order (docs/CALLS.md): 13, then 1 to 10, 14. Count, pairs
--- and entanglement have the record's own.
+-- The refusals of asking for an order, in their order (docs/CALLS.md): 13, then 1 to 10, 14. Count, pairs,
+-- squared entanglement and thousandths have the record's own.
 use Prim.Native.Nat.{ℕ}
 use mathlib.Core.Bool.{not}
 use mathlib.Core.List.{List}

@@ -7,9 +7,16 @@ pub struct Counted {
     pub count: u32,
 }
 
-// Entanglement: D, W and D divided by W; or, for a single leaf, no ratio; or the refusal.
-pub enum Entangled {
+// Squared entanglement: D, W and D divided by W; or, for a single leaf, no ratio; or the refusal.
+pub enum SquaredEntanglement {
     Ratio(u32, u32, f64),
+    NoRatio,
+    Refused(Refusal),
+}
+
+// Entanglement, the root of that, in thousandths: k; or, for a single leaf, no ratio; or the refusal.
+pub enum InThousandths {
+    Ratio(u32),
     NoRatio,
     Refused(Refusal),
 }

@@ -1,9 +1,11 @@
-// The calls that only show: a side's order, the count by seen places and pair by pair, the entanglement.
+// The calls that only show: a side's order, the count by seen places and pair by pair, the entanglement squared and in
+// thousandths.
 ghost use mathlib.Core.Path.{_≡_};
-ghost use Rattle.calls_show.specs.Calls.{Counts, Entangles, Orders};
+ghost use Rattle.calls_show.specs.Calls.{Counts, Orders, SquaredEntangles, TellsThousandths};
 ghost use Rattle.calls_show.specs.Refusals.{orderRefusal};
 use crate::answers::Counted;
-use crate::answers::Entangled;
+use crate::answers::InThousandths;
+use crate::answers::SquaredEntanglement;
 use crate::counting::record_displaced;
 use crate::counting::record_paired;
 use crate::counting::record_seen;
@@ -82,19 +84,36 @@ pub fn pairs(s: &[u8]) -> Counted
     }
 }
 
-// The entanglement of any bytes: D, W and their ratio, or no ratio for a single leaf, or the refusal.
-pub fn entanglement(s: &[u8]) -> Entangled
-    ensures { λ r. ⌜ Entangles (now (s .entry)) r ⌝ }
+// The squared entanglement of any bytes: D, W and their ratio, or no ratio for a single leaf, or the refusal.
+pub fn squared_entanglement(s: &[u8]) -> SquaredEntanglement
+    ensures { λ r. ⌜ SquaredEntangles (now (s .entry)) r ⌝ }
 {
     let k = record::refusal_number(s);
     if k != 0 {
-        return Entangled::Refused(told(s, k));
+        return SquaredEntanglement::Refused(told(s, k));
     }
     let n = record::size_of(s);
     if n == 1 {
-        return Entangled::NoRatio;
+        return SquaredEntanglement::NoRatio;
     }
     let d = record_displaced(s, n);
     let w = work_displacement::worst_value(n as usize);
-    Entangled::Ratio(d, w, (d as f64) / (w as f64))
+    SquaredEntanglement::Ratio(d, w, (d as f64) / (w as f64))
+}
+
+// The entanglement of any bytes in thousandths, or no ratio for a single leaf, or the refusal.
+pub fn thousandths(s: &[u8]) -> InThousandths
+    ensures { λ r. ⌜ TellsThousandths (now (s .entry)) r ⌝ }
+{
+    let k = record::refusal_number(s);
+    if k != 0 {
+        return InThousandths::Refused(told(s, k));
+    }
+    let n = record::size_of(s);
+    if n == 1 {
+        return InThousandths::NoRatio;
+    }
+    let d = record_displaced(s, n);
+    let w = work_displacement::worst_value(n as usize);
+    InThousandths::Ratio(work_displacement::thousandths(d, w))
 }

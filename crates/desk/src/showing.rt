@@ -3,7 +3,7 @@ ghost use mathlib.Core.Bool.{cond};
 ghost use mathlib.Core.Path.{_≡_};
 ghost use lib.Ieee.{binary64, eq, toBits};
 use calls_show::answers::Counted;
-use calls_show::answers::Entangled;
+use calls_show::answers::SquaredEntanglement;
 use desk_words::lists::list as list_in;
 use desk_words::numbers::number;
 use desk_words::spelling::list;
@@ -91,9 +91,9 @@ fn ratio(d: u32, w: u32, x: f64) {
 // entanglement RECORD -> NUMBER D W RATIO
 pub fn entanglement(s: &[u8]) {
     match calls_show::entanglement(s) {
-        Entangled::Ratio(d, w, x) => ratio(d, w, x),
-        Entangled::NoRatio => no_ratio(0, 0),
-        Entangled::Refused(refusal) => no_ratio(refusal.number, refusal.row),
+        SquaredEntanglement::Ratio(d, w, x) => ratio(d, w, x),
+        SquaredEntanglement::NoRatio => no_ratio(0, 0),
+        SquaredEntanglement::Refused(refusal) => no_ratio(refusal.number, refusal.row),
     }
 }
 

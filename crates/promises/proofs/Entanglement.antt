@@ -17,10 +17,10 @@ use Rattle.record_fields.proofs.Acceptance.{accepted-sized}
 use Rattle.record_fields.proofs.Meaning.{links-perm}
 use Rattle.record_arrays.specs.Shown.{shownOrder, shownDisplacement}
 use Rattle.record_arrays.proofs.AsItStands.{over-its-leaves, side-perm}
-use Rattle.calls_show.specs.Calls.{ratio, entangled, entangledRefusal}
-use Rattle.calls_show.proofs.Outcomes.{entangled-told}
+use Rattle.calls_show.specs.Calls.{ratio, squaredEntanglement, squaredRefusal}
+use Rattle.calls_show.proofs.Outcomes.{squared-told}
 use Rattle.promises.specs.Entanglement as Entanglement
-use Rattle.promises.specs.Entanglement.{Exact, EntangledKeeps}
+use Rattle.promises.specs.Entanglement.{Exact, SquaredKeeps}
 
 pub exact : (x : ℕ) → x ≤ 44739072 → Exact x
 unfolding ofInt
@@ -28,8 +28,8 @@ exact x h = round-whole binary64 false x (omega (arith, h))
 
 module _ (s : List ℕ) where
   -- an answer with number 0 is of a record that is accepted
-  number-0 : entangledRefusal (entangled s) .number ≡ 0 → refusal s ≡ 0
-  number-0 h = sym (ap (λ r. r .number) (entangled-told s)) ∙ h
+  number-0 : squaredRefusal (squaredEntanglement s) .number ≡ 0 → refusal s ≡ 0
+  number-0 h = sym (ap (λ r. r .number) (squared-told s)) ∙ h
 
   module _ (a : refusal s ≡ 0) where
     at-most : shownDisplacement s ≤ worst (sizeOf s)
@@ -42,8 +42,8 @@ module _ (s : List ℕ) where
     most : worst (sizeOf s) ≤ 44739072
     most = worst-most (sizeOf s) (accepted-sized s a .most)
 
-    one-leaf : sizeOf s ≡ 1 → EntangledKeeps s (entangled s)
-    unfolding entangled
+    one-leaf : sizeOf s ≡ 1 → SquaredKeeps s (squaredEntanglement s)
+    unfolding squaredEntanglement
     one-leaf n =
         let w : 0 ≡ worst (sizeOf s) = ap worst (sym n) in
         let d : 0 ≡ shownDisplacement s = omega (arith, at-most, w) in
@@ -57,8 +57,8 @@ module _ (s : List ℕ) where
           divided = λ h. absurd (omega (arith, n, h));
         })
 
-    more-leaves : 2 ≤ sizeOf s → EntangledKeeps s (entangled s)
-    unfolding entangled ratio
+    more-leaves : 2 ≤ sizeOf s → SquaredKeeps s (squaredEntanglement s)
+    unfolding squaredEntanglement ratio
     more-leaves n =
         rw (a, ne-eqb (sizeOf s) 1 (λ e. absurd (omega (arith, n, e)))) (record {
           displaced = refl;
@@ -70,10 +70,10 @@ module _ (s : List ℕ) where
           divided = λ h. refl;
         })
 
-    keeps : EntangledKeeps s (entangled s)
+    keeps : SquaredKeeps s (squaredEntanglement s)
     keeps = go (eqb (sizeOf s) 1) refl
       where
-        go : (b : Bool) → eqb (sizeOf s) 1 ≡ b → EntangledKeeps s (entangled s)
+        go : (b : Bool) → eqb (sizeOf s) 1 ≡ b → SquaredKeeps s (squaredEntanglement s)
         go true e = one-leaf (eqb-true (sizeOf s) 1 e)
         go false e =
             let some = accepted-sized s a .some in
@@ -84,5 +84,5 @@ pub entanglement : Entanglement.Entanglement
 entanglement = record {
   keeps = λ s answer o z.
       let e = sym (o .answers) in
-      subst (EntangledKeeps s) e (keeps s (number-0 s (ap (λ a. entangledRefusal a .number) e ∙ z)));
+      subst (SquaredKeeps s) e (keeps s (number-0 s (ap (λ a. squaredRefusal a .number) e ∙ z)));
 }

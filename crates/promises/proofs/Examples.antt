@@ -14,7 +14,7 @@ use Rattle.record_fields.specs.Refusals.{refusal}
 use Rattle.record_fields.specs.Told.{rowFor}
 use Rattle.record_arrays.specs.Sides.{isSide, holds}
 use Rattle.calls_turns.specs.Refusals.{noAllowance, freeRefusal, runRefusal}
-use Rattle.calls_show.specs.Calls.{entangled}
+use Rattle.calls_show.specs.Calls.{squaredEntanglement}
 use Rattle.newick.specs.Sentence.{leafNumbers}
 use Rattle.newick.specs.Reading.{textRead}
 use Rattle.newick.specs.Rows.{rowsOf}
@@ -28,7 +28,7 @@ use Rattle.promises.specs.Examples.{Examples}
 pub examples : Examples
 unfolding order write leaves deep object count place range over across pairs choose freed go run after sum displacement
     used among first badRow numbers split partsOf packed all isMark isHold noSize breaksRule oneToOne isLayout contentsRefusal
-    headingRefusal refusal rowFor isSide holds noAllowance freeRefusal runRefusal entangled
+    headingRefusal refusal rowFor isSide holds noAllowance freeRefusal runRefusal squaredEntanglement
     textRead leafNumbers rowsOf keepsGrammar said isNumbered newickReadRefusal sentenceOf textOf writtenText
     namedBy entryFor namesNone rowsIn tableFor any someNone amongEntries twice mergeReadRefusal writtenTable
 examples = record { table = refl; texts-read = refl; texts-written = refl; tables-read = refl; tables-written = refl }

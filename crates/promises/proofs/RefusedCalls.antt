@@ -14,10 +14,10 @@ use Rattle.record.specs.declared.reading.Reading.the-variants as reading
 use Rattle.record.specs.Calls.{readingRefusal, holdIn, sizeIn}
 use Rattle.record_unpacking.specs.Refusals.{unpackRefusal}
 use Rattle.record_packing.specs.Refusals.{packRefusal}
-use Rattle.calls_show.specs.declared.answers.Entangled.{Entangled}
-use Rattle.calls_show.specs.declared.answers.Entangled.the-variants.{Ratio, NoRatio, Refused}
+use Rattle.calls_show.specs.declared.answers.SquaredEntanglement.{SquaredEntanglement}
+use Rattle.calls_show.specs.declared.answers.SquaredEntanglement.the-variants.{Ratio, NoRatio, Refused}
 use Rattle.calls_show.specs.Refusals.{orderRefusal}
-use Rattle.calls_show.specs.Calls.{entangled, entangledRefusal, displacedIn, worstIn, ratioIn}
+use Rattle.calls_show.specs.Calls.{squaredEntanglement, squaredRefusal, displacedIn, worstIn, ratioIn}
 use Rattle.calls_turns.specs.Refusals.{freeRefusal, runRefusal}
 use Rattle.calls_hands.specs.Refusals.{handsRefusal}
 use Rattle.calls_better.specs.Refusals.{betterRefusal}
@@ -51,7 +51,7 @@ nothing-unpacked s left right links left-layout right-layout o p z =
     }
 
 pub refused-calls : RefusedCalls.RefusedCalls
-unfolding entangled betterPart betterWhich
+unfolding squaredEntanglement betterPart betterWhich
 refused-calls = record {
   read = λ s answer p z. no-header answer z;
   unpack = nothing-unpacked;
@@ -65,7 +65,7 @@ refused-calls = record {
       o .afterwards ∙ rw (ne-eqb (orderRefusal s side out) 0 (λ z. h (ap (λ a. a .number) (o .answers) ∙ z))) refl;
   count = λ s answer o h.
       ap (λ a. a .count) (o .answers) ∙ rw (ne-eqb (refusal s) 0 (λ z. h (ap (λ a. a .refusal .number) (o .answers) ∙ z))) refl;
-  entanglement = λ s answer o h. no-entanglement answer h;
+  entanglement = λ s answer o h. no-squared answer h;
   free = λ s side answer s′ o h.
       let e = ne-eqb (freeRefusal s side) 0 (λ z. h (ap (λ a. a .refusal .number) (o .answers) ∙ z)) in
       (o .afterwards ∙ rw e refl, ap (λ a. a .before) (o .answers) ∙ rw e refl, ap (λ a. a .after) (o .answers) ∙ rw e refl);
@@ -103,8 +103,8 @@ refused-calls = record {
       o .afterwards ∙ rw (ne-eqb (mergeWriteRefusal s side out) 0 (λ z. h (ap (λ a. a .number) (o .answers) ∙ z))) refl;
 }
   where
-    no-entanglement : (answer : Entangled) → entangledRefusal answer .number ≢ 0 →
+    no-squared : (answer : SquaredEntanglement) → squaredRefusal answer .number ≢ 0 →
         (displacedIn answer ≡ 0) × (worstIn answer ≡ 0) × (ratioIn answer ≡ none)
-    no-entanglement (Ratio d w x) h = absurd (h refl)
-    no-entanglement NoRatio h = absurd (h refl)
-    no-entanglement (Refused r) h = (refl, refl, refl)
+    no-squared (Ratio d w x) h = absurd (h refl)
+    no-squared NoRatio h = absurd (h refl)
+    no-squared (Refused r) h = (refl, refl, refl)

@@ -13,8 +13,8 @@ use Rattle.record_fields.proofs.SaysRow.{tells-row, tells-row-in}
 use Rattle.record.specs.Calls.{readingOf, readingRefusal}
 use Rattle.record_unpacking.proofs.Unpacked.{unpack-own}
 use Rattle.record_packing.proofs.Packed.{pack-own}
-use Rattle.calls_show.specs.Calls.{entangledRefusal}
-use Rattle.calls_show.proofs.Outcomes.{order-own, entangled-told}
+use Rattle.calls_show.specs.Calls.{squaredRefusal}
+use Rattle.calls_show.proofs.Outcomes.{order-own, squared-told}
 use Rattle.calls_turns.proofs.Turns.{free-own, run-own}
 use Rattle.calls_hands.proofs.HandLists.{hands-own}
 use Rattle.calls_better.proofs.Compared.{compare-own}
@@ -42,7 +42,7 @@ row-told = record {
   pack = λ P out answer out′ p. tells-row-in P (pack-own P out) (p .answers);
   order = λ s side out answer out′ p. tells-row s (order-own s side out refl) (p .answers);
   count = λ s answer p. tells-row s (refusal-own s refl) (ap (λ a. a .refusal) (p .answers));
-  entanglement = λ s answer p. tells-row s (refusal-own s refl) (ap entangledRefusal (p .answers) ∙ entangled-told s);
+  entanglement = λ s answer p. tells-row s (refusal-own s refl) (ap squaredRefusal (p .answers) ∙ squared-told s);
   free = λ s side answer s′ p. tells-row s (free-own s side refl) (ap (λ a. a .refusal) (p .answers));
   run = λ s allowance answer s′ p. tells-row s (run-own s allowance refl) (ap (λ a. a .refusal) (p .answers));
   hands = λ s hands answer s′ p. tells-row s (hands-own s hands refl) (p .answers);

@@ -11,14 +11,14 @@ use lib.Ieee.Exact.{HasValue}
 use Rattle.tanglegram.specs.Entanglement.{worst}
 use Rattle.record_fields.specs.Fields.{sizeOf}
 use Rattle.record_arrays.specs.Shown.{shownDisplacement}
-use Rattle.calls_show.specs.declared.answers.Entangled.{Entangled}
-use Rattle.calls_show.specs.Calls.{Entangles, entangledRefusal, displacedIn, worstIn, ratioIn}
+use Rattle.calls_show.specs.declared.answers.SquaredEntanglement.{SquaredEntanglement}
+use Rattle.calls_show.specs.Calls.{SquaredEntangles, squaredRefusal, displacedIn, worstIn, ratioIn}
 
 -- A whole number is a 64-bit float without loss: the float has its value.
 abbrev pub Exact : ℕ → Type 0
 Exact x = HasValue (ofInt binary64 (pos x)) false x 1
 
-pub record EntangledKeeps (s : List ℕ) (answer : Entangled) : Type 0 where
+pub record SquaredKeeps (s : List ℕ) (answer : SquaredEntanglement) : Type 0 where
   -- D is the links' displacement, at most W; W = n(n² - 1)/3 is at most 44,739,072. Both are exact as floats.
   pub displaced : displacedIn answer ≡ shownDisplacement s
   pub worst-value : worstIn answer ≡ worst (sizeOf s)
@@ -31,4 +31,4 @@ pub record EntangledKeeps (s : List ℕ) (answer : Entangled) : Type 0 where
       ratioIn answer ≡ some (div binary64 (ofInt binary64 (pos (displacedIn answer))) (ofInt binary64 (pos (worstIn answer))))
 
 pub record Entanglement : Type 0 where
-  pub keeps : (s : List ℕ) (answer : Entangled) → Entangles s answer → entangledRefusal answer .number ≡ 0 → EntangledKeeps s answer
+  pub keeps : (s : List ℕ) (answer : SquaredEntanglement) → SquaredEntangles s answer → squaredRefusal answer .number ≡ 0 → SquaredKeeps s answer

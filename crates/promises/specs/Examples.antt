@@ -19,7 +19,7 @@ use Rattle.record_fields.specs.Refused.{refusedRow, accepted, lent, orZero}
 use Rattle.record_fields.specs.Told.{toldOf}
 use Rattle.record_fields.specs.Meaning.{tableOf}
 use Rattle.record_arrays.specs.Shown.{shownOrder, shownCount}
-use Rattle.calls_show.specs.Calls.{entangled, displacedIn, worstIn, ratioIn}
+use Rattle.calls_show.specs.Calls.{squaredEntanglement, displacedIn, worstIn, ratioIn}
 use Rattle.calls_turns.specs.Refusals.{freeRefusal, runRefusal}
 use Rattle.calls_turns.specs.Calls.{freedLayouts, ranTo}
 use Rattle.calls_newick.specs.Refusals.{said, newickReadRefusal, writtenText}
@@ -59,9 +59,9 @@ called g =
         crossed = orZero k (shownCount s);
         left-own = listed (caseOwn g left);
         right-own = listed (caseOwn g right);
-        displaced = displacedIn (entangled s);
-        worst-displaced = worstIn (entangled s);
-        has-ratio = isRatio (ratioIn (entangled s));
+        displaced = displacedIn (squaredEntanglement s);
+        worst-displaced = worstIn (squaredEntanglement s);
+        has-ratio = isRatio (ratioIn (squaredEntanglement s));
         left-freed = listed (freedLayouts s 1 .left-bytes);
         left-freed-order = listed (orderOf (tableOf s) (freedLayouts s 1) left);
         left-freed-crossed = orZero k (crossings (tableOf s) (freedLayouts s 1));

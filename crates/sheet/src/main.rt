@@ -1,7 +1,7 @@
 // The sheet of one record: reads it from standard input, shows it as it stands, runs it with the largest allowance and
 // shows it afterwards. A bad record prints only `REFUSED` and its refusal, a held one its first five lines and
 // `REFUSED 11`.
-use calls_show::answers::Entangled;
+use calls_show::answers::SquaredEntanglement;
 use calls_turns::answers::Ran;
 use record::reading::Header;
 use record::reading::Reading;
@@ -63,7 +63,7 @@ fn measures(s: &[u8]) {
     printing::next(counted.count);
     printing::end();
     let entangled = calls_show::entanglement(s);
-    let Entangled::Ratio(d, w, _ratio) = entangled else {
+    let SquaredEntanglement::Ratio(d, w, _ratio) = entangled else {
         return displaced(0, 0);
     };
     displaced(d, w);

@@ -1,6 +1,7 @@
 -- The statements of the calls for C fix their outcomes, since those of the calls themselves do.
 use mathlib.Core.Path.{_≡_, refl, sym, ap, _∙_}
 use Rattle.record.proofs.Outcomes.{equal-to-one}
+use Rattle.calls_show.proofs.Outcomes.{one-thousandths}
 use Rattle.tangle.specs.ForC.{Gives}
 use Rattle.tangle.specs.Outcomes.{UnpackOutcomeForC, OutcomesForC}
 
@@ -20,7 +21,8 @@ outcomes-for-c = record {
       λ s side out a b x y g h.
       (alike (λ _ _ p q. equal-to-one (p .answers) (q .answers)) g h, equal-to-one (g .called .afterwards) (h .called .afterwards));
   count = λ s a b. alike (λ _ _ p q. equal-to-one (p .answers) (q .answers));
-  entanglement = λ s a b. alike (λ _ _ p q. equal-to-one (p .answers) (q .answers));
+  squared-entanglement = λ s a b. alike (λ _ _ p q. equal-to-one (p .answers) (q .answers));
+  thousandths = λ s a b. alike (λ x y p q. one-thousandths s x y (p .answers) (q .answers));
   free =
       λ s side a b x y g h.
       (alike (λ _ _ p q. equal-to-one (p .answers) (q .answers)) g h, equal-to-one (g .called .afterwards) (h .called .afterwards));

@@ -8,17 +8,19 @@ use Rattle.record_fields.proofs.Told.{refusal-own, set-hold-own}
 use Rattle.record_fields.proofs.SaysRow.{tells-row, tells-row-in}
 use Rattle.record_unpacking.proofs.Unpacked.{unpack-own}
 use Rattle.record_packing.proofs.Packed.{pack-own}
-use Rattle.calls_show.specs.declared.answers.Entangled.{Entangled}
-use Rattle.calls_show.specs.declared.answers.Entangled.the-variants.{Ratio, NoRatio, Refused}
-use Rattle.calls_show.specs.Calls.{entangledRefusal}
-use Rattle.calls_show.proofs.Outcomes.{order-own, entangled-told}
+use Rattle.calls_show.specs.declared.answers.SquaredEntanglement.{SquaredEntanglement}
+use Rattle.calls_show.specs.declared.answers.SquaredEntanglement.the-variants.{Ratio, NoRatio, Refused}
+use Rattle.calls_show.specs.declared.answers.InThousandths.{InThousandths}
+use Rattle.calls_show.specs.declared.answers.InThousandths.the-variants as in-thousandths
+use Rattle.calls_show.specs.Calls.{squaredRefusal, thousandthsRefusal}
+use Rattle.calls_show.proofs.Outcomes.{order-own, squared-told, thousandths-told}
 use Rattle.calls_turns.proofs.Turns.{free-own, run-own}
 use Rattle.calls_hands.proofs.HandLists.{hands-own}
 use Rattle.calls_better.proofs.Compared.{compare-own}
 use Rattle.calls_newick.proofs.Outcomes.{write-own}
 use Rattle.calls_merge.proofs.SideWritten.{merge-own}
 use Rattle.tangle.specs.declared.answers.TangleRefusal.{TangleRefusal}
-use Rattle.tangle.specs.ForC.{Gives, refusalForC, entanglementForC}
+use Rattle.tangle.specs.ForC.{Gives, refusalForC, squaredForC, thousandthsForC}
 use Rattle.tangle.specs.RowsForC.{RowsForC}
 
 -- an answer in a form says what the form of each answer that the call may give says
@@ -31,12 +33,18 @@ alone : {P : Parts} {call : Refusal → Type 0} {answer : TangleRefusal} → ((a
     Gives call refusalForC answer → SaysRow P (answer .refusal) (answer .row)
 alone says g = in-form (λ x. x .refusal) (λ x. x .row) says g
 
--- an entanglement, case by case
-entangled-form : (P : Parts) (a : Entangled) → SaysRow P (entangledRefusal a .number) (entangledRefusal a .row) →
-    SaysRow P (entanglementForC a .refusal) (entanglementForC a .row)
-entangled-form P (Ratio d w x) says = says
-entangled-form P NoRatio says = says
-entangled-form P (Refused r) says = says
+-- squared entanglement and thousandths, case by case
+squared-form : (P : Parts) (a : SquaredEntanglement) → SaysRow P (squaredRefusal a .number) (squaredRefusal a .row) →
+    SaysRow P (squaredForC a .refusal) (squaredForC a .row)
+squared-form P (Ratio d w x) says = says
+squared-form P NoRatio says = says
+squared-form P (Refused r) says = says
+
+thousandths-form : (P : Parts) (a : InThousandths) → SaysRow P (thousandthsRefusal a .number) (thousandthsRefusal a .row) →
+    SaysRow P (thousandthsForC a .refusal) (thousandthsForC a .row)
+thousandths-form P (in-thousandths.Ratio k) says = says
+thousandths-form P in-thousandths.NoRatio says = says
+thousandths-form P (in-thousandths.Refused r) says = says
 
 pub rows-for-c : RowsForC
 rows-for-c = record {
@@ -45,10 +53,14 @@ rows-for-c = record {
   count =
       λ s answer g.
       in-form (λ x. x .refusal) (λ x. x .row) (λ a p. tells-row s (refusal-own s refl) (ap (λ c. c .refusal) (p .answers))) g;
-  entanglement =
+  squared-entanglement =
       λ s answer g.
       in-form (λ x. x .refusal) (λ x. x .row)
-      (λ a p. entangled-form (parts s) a (tells-row s (refusal-own s refl) (ap entangledRefusal (p .answers) ∙ entangled-told s))) g;
+      (λ a p. squared-form (parts s) a (tells-row s (refusal-own s refl) (ap squaredRefusal (p .answers) ∙ squared-told s))) g;
+  thousandths =
+      λ s answer g.
+      in-form (λ x. x .refusal) (λ x. x .row)
+      (λ a p. thousandths-form (parts s) a (tells-row s (refusal-own s refl) (thousandths-told s a (p .answers)))) g;
   free =
       λ s side answer s′ g.
       in-form (λ x. x .refusal) (λ x. x .row) (λ a p. tells-row s (free-own s side refl) (ap (λ c. c .refusal) (p .answers))) g;

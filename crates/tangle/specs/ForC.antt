@@ -13,9 +13,11 @@ use Rattle.record_unpacking.specs.declared.unpacking.Unpacked.{Unpacked}
 use Rattle.record_unpacking.specs.Calls.{Unpacks}
 use Rattle.record_packing.specs.Calls.{Packs}
 use Rattle.calls_show.specs.declared.answers.Counted.{Counted}
-use Rattle.calls_show.specs.declared.answers.Entangled.{Entangled}
-use Rattle.calls_show.specs.declared.answers.Entangled.the-variants.{Ratio, NoRatio, Refused}
-use Rattle.calls_show.specs.Calls.{Orders, Counts, Entangles}
+use Rattle.calls_show.specs.declared.answers.SquaredEntanglement.{SquaredEntanglement}
+use Rattle.calls_show.specs.declared.answers.SquaredEntanglement.the-variants.{Ratio, NoRatio, Refused}
+use Rattle.calls_show.specs.declared.answers.InThousandths.{InThousandths}
+use Rattle.calls_show.specs.declared.answers.InThousandths.the-variants as in-thousandths
+use Rattle.calls_show.specs.Calls.{Orders, Counts, SquaredEntangles, TellsThousandths}
 use Rattle.calls_turns.specs.declared.answers.Freed.{Freed}
 use Rattle.calls_turns.specs.declared.answers.Ran.{Ran}
 use Rattle.calls_turns.specs.Calls.{Frees, Runs}
@@ -29,7 +31,8 @@ use Rattle.calls_newick.specs.Calls.{NewickReads, NewickWrites}
 use Rattle.calls_merge.specs.Calls.{MergeReads, MergeWrites}
 use Rattle.tangle.specs.declared.answers.TangleRefusal.{TangleRefusal}
 use Rattle.tangle.specs.declared.answers.TangleCount.{TangleCount}
-use Rattle.tangle.specs.declared.answers.TangleEntanglement.{TangleEntanglement}
+use Rattle.tangle.specs.declared.answers.TangleSquaredEntanglement.{TangleSquaredEntanglement}
+use Rattle.tangle.specs.declared.answers.TangleThousandths.{TangleThousandths}
 use Rattle.tangle.specs.declared.answers.TangleFree.{TangleFree}
 use Rattle.tangle.specs.declared.answers.TangleRun.{TangleRun}
 use Rattle.tangle.specs.declared.answers.TangleBetter.{TangleBetter}
@@ -80,19 +83,33 @@ countForC a = record { refusal = a .refusal .number; row = a .refusal .row; coun
 abbrev pub CountsForC : List ℕ → TangleCount → Type 0
 CountsForC s answer = Gives (Counts s) countForC answer
 
--- ---- entanglement
+-- ---- squared entanglement
 
 -- No ratio: the refusal's number and its row, and zero for every other number; as a ratio, +0.
-abbrev pub noRatio : ℕ → ℕ → TangleEntanglement
-noRatio k row = record { refusal = k; row = row; displacement = 0; worst = 0; «has_ratio» = 0; ratio = fin false 0 (pos 0) }
+abbrev pub noSquared : ℕ → ℕ → TangleSquaredEntanglement
+noSquared k row = record { refusal = k; row = row; displacement = 0; worst = 0; «has_ratio» = 0; ratio = fin false 0 (pos 0) }
 
-abbrev pub entanglementForC : Entangled → TangleEntanglement
-entanglementForC (Ratio d w x) = record { refusal = 0; row = 0; displacement = d; worst = w; «has_ratio» = 1; ratio = x }
-entanglementForC NoRatio = noRatio 0 0
-entanglementForC (Refused r) = noRatio (r .number) (r .row)
+abbrev pub squaredForC : SquaredEntanglement → TangleSquaredEntanglement
+squaredForC (Ratio d w x) = record { refusal = 0; row = 0; displacement = d; worst = w; «has_ratio» = 1; ratio = x }
+squaredForC NoRatio = noSquared 0 0
+squaredForC (Refused r) = noSquared (r .number) (r .row)
 
-abbrev pub EntanglesForC : List ℕ → TangleEntanglement → Type 0
-EntanglesForC s answer = Gives (Entangles s) entanglementForC answer
+abbrev pub SquaredEntanglesForC : List ℕ → TangleSquaredEntanglement → Type 0
+SquaredEntanglesForC s answer = Gives (SquaredEntangles s) squaredForC answer
+
+-- ---- entanglement in thousandths
+
+abbrev pub toldThousandths : ℕ → ℕ → ℕ → ℕ → TangleThousandths
+toldThousandths number row has-ratio k = record { refusal = number; row = row; «has_ratio» = has-ratio; thousandths = k }
+
+-- With a ratio 1 and k; without one 0 and 0.
+abbrev pub thousandthsForC : InThousandths → TangleThousandths
+thousandthsForC (in-thousandths.Ratio k) = toldThousandths 0 0 1 k
+thousandthsForC in-thousandths.NoRatio = toldThousandths 0 0 0 0
+thousandthsForC (in-thousandths.Refused r) = toldThousandths (r .number) (r .row) 0 0
+
+abbrev pub TellsThousandthsForC : List ℕ → TangleThousandths → Type 0
+TellsThousandthsForC s answer = Gives (TellsThousandths s) thousandthsForC answer
 
 -- ---- free
 

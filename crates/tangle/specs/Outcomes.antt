@@ -8,8 +8,8 @@ use Rattle.record_fields.specs.Fixes.{Fixes, FixesBoth}
 use Rattle.calls_hands.specs.Refusals.{Hand}
 use Rattle.tangle.specs.declared.answers.TangleUnpack.{TangleUnpack}
 use Rattle.tangle.specs.ForC.{ChecksForC, OrdersForC, SetsHoldForC, HandsForC, BetterChecksForC, PacksForC, CountsForC}
-use Rattle.tangle.specs.ForC.{EntanglesForC, FreesForC, RunsForC, ComparesForC, UnpacksForC, NewickReadsForC, NewickWritesForC}
-use Rattle.tangle.specs.ForC.{MergeReadsForC, MergeWritesForC}
+use Rattle.tangle.specs.ForC.{SquaredEntanglesForC, TellsThousandthsForC, FreesForC, RunsForC, ComparesForC, UnpacksForC}
+use Rattle.tangle.specs.ForC.{NewickReadsForC, NewickWritesForC, MergeReadsForC, MergeWritesForC}
 
 -- What unpacking comes to: its answer, and what is in the five buffers afterwards.
 pub record UnpackOutcomeForC : Type 0 where
@@ -30,7 +30,8 @@ pub record OutcomesForC : Type 0 where
   pub order : (s : List ℕ) (side : ℕ) (out : List ℕ) → FixesBoth (OrdersForC s side out)
   -- Of count and of pairs, and of one against the other.
   pub count : (s : List ℕ) → Fixes (CountsForC s)
-  pub entanglement : (s : List ℕ) → Fixes (EntanglesForC s)
+  pub squared-entanglement : (s : List ℕ) → Fixes (SquaredEntanglesForC s)
+  pub thousandths : (s : List ℕ) → Fixes (TellsThousandthsForC s)
   pub free : (s : List ℕ) (side : ℕ) → FixesBoth (FreesForC s side)
   pub run : (s : List ℕ) (allowance : ℕ) → FixesBoth (RunsForC s allowance)
   pub hands : (s : List ℕ) (hands : List Hand) → FixesBoth (HandsForC s hands)

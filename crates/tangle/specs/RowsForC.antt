@@ -10,15 +10,16 @@ use Rattle.record_fields.specs.Told.{SaysRow}
 use Rattle.calls_hands.specs.Refusals.{Hand}
 use Rattle.tangle.specs.declared.answers.TangleRefusal.{TangleRefusal}
 use Rattle.tangle.specs.declared.answers.TangleCount.{TangleCount}
-use Rattle.tangle.specs.declared.answers.TangleEntanglement.{TangleEntanglement}
+use Rattle.tangle.specs.declared.answers.TangleSquaredEntanglement.{TangleSquaredEntanglement}
+use Rattle.tangle.specs.declared.answers.TangleThousandths.{TangleThousandths}
 use Rattle.tangle.specs.declared.answers.TangleFree.{TangleFree}
 use Rattle.tangle.specs.declared.answers.TangleRun.{TangleRun}
 use Rattle.tangle.specs.declared.answers.TangleBetter.{TangleBetter}
 use Rattle.tangle.specs.declared.answers.TangleNewickRead.{TangleNewickRead}
 use Rattle.tangle.specs.declared.answers.TangleNewickWrite.{TangleNewickWrite}
 use Rattle.tangle.specs.ForC.{ChecksForC, OrdersForC, SetsHoldForC, HandsForC, BetterChecksForC, PacksForC, CountsForC}
-use Rattle.tangle.specs.ForC.{EntanglesForC, FreesForC, RunsForC, ComparesForC, NewickReadsForC, NewickWritesForC}
-use Rattle.tangle.specs.ForC.{MergeReadsForC, MergeWritesForC}
+use Rattle.tangle.specs.ForC.{SquaredEntanglesForC, TellsThousandthsForC, FreesForC, RunsForC, ComparesForC}
+use Rattle.tangle.specs.ForC.{NewickReadsForC, NewickWritesForC, MergeReadsForC, MergeWritesForC}
 use Rattle.tangle.specs.Outcomes.{UnpackOutcomeForC, UnpacksToForC}
 
 pub record RowsForC : Type 0 where
@@ -27,7 +28,9 @@ pub record RowsForC : Type 0 where
       SaysRow (parts s) (answer .refusal) (answer .row)
   -- Of count and of pairs.
   pub count : (s : List ℕ) (answer : TangleCount) → CountsForC s answer → SaysRow (parts s) (answer .refusal) (answer .row)
-  pub entanglement : (s : List ℕ) (answer : TangleEntanglement) → EntanglesForC s answer →
+  pub squared-entanglement : (s : List ℕ) (answer : TangleSquaredEntanglement) → SquaredEntanglesForC s answer →
+      SaysRow (parts s) (answer .refusal) (answer .row)
+  pub thousandths : (s : List ℕ) (answer : TangleThousandths) → TellsThousandthsForC s answer →
       SaysRow (parts s) (answer .refusal) (answer .row)
   pub free : (s : List ℕ) (side : ℕ) (answer : TangleFree) (s′ : List ℕ) → FreesForC s side answer s′ →
       SaysRow (parts s) (answer .refusal) (answer .row)

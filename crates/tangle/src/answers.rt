@@ -18,13 +18,22 @@ pub struct TangleCount {
 
 // The refusal and its row, D, W, 1 if there is a ratio or 0 if not, and the ratio, 0.0 where there is none.
 #[repr(C)]
-pub struct TangleEntanglement {
+pub struct TangleSquaredEntanglement {
     pub refusal: u32,
     pub row: u32,
     pub displacement: u32,
     pub worst: u32,
     pub has_ratio: u32,
     pub ratio: f64,
+}
+
+// The refusal and its row, 1 if there is a ratio or 0 if not, and its root in thousandths, 0 where there is none.
+#[repr(C)]
+pub struct TangleThousandths {
+    pub refusal: u32,
+    pub row: u32,
+    pub has_ratio: u32,
+    pub thousandths: u32,
 }
 
 // The refusal and its row, and the counts before and after.

@@ -1,12 +1,15 @@
-// The calls for C that only show a record: check, order, count, pairs and entanglement. None writes to the record; an
-// order is written to its buffer, unless it is refused.
+// The calls for C that only show a record: check, order, count, pairs, squared entanglement and thousandths. None
+// writes to the record; an order is written to its buffer, unless it is refused.
 ghost use mathlib.Core.Path.{_≡_};
-ghost use Rattle.tangle.specs.ForC.{ChecksForC, CountsForC, EntanglesForC, noRatio, OrdersForC};
+ghost use Rattle.tangle.specs.ForC.{ChecksForC, CountsForC, noSquared, OrdersForC};
+ghost use Rattle.tangle.specs.ForC.{SquaredEntanglesForC, TellsThousandthsForC, toldThousandths};
 use crate::answers::TangleCount;
-use crate::answers::TangleEntanglement;
 use crate::answers::TangleRefusal;
+use crate::answers::TangleSquaredEntanglement;
+use crate::answers::TangleThousandths;
 use crate::narrowing::in_16_bits;
-use calls_show::answers::Entangled;
+use calls_show::answers::InThousandths;
+use calls_show::answers::SquaredEntanglement;
 
 // Whether any bytes are a record: 0, or the refusal.
 #[no_mangle]
@@ -58,14 +61,14 @@ pub extern "C" fn tangle_pairs(s: &[u8]) -> TangleCount
     }
 }
 
-// The entanglement of any bytes: D, W and their ratio, or no ratio for a single leaf; or the refusal.
+// The squared entanglement of any bytes: D, W and their ratio, or no ratio for a single leaf; or the refusal.
 #[no_mangle]
-pub extern "C" fn tangle_entanglement(s: &[u8]) -> TangleEntanglement
-    ensures { λ r. ⌜ EntanglesForC (now (s .entry)) r ⌝ }
+pub extern "C" fn tangle_squared_entanglement(s: &[u8]) -> TangleSquaredEntanglement
+    ensures { λ r. ⌜ SquaredEntanglesForC (now (s .entry)) r ⌝ }
 {
-    let entangled = calls_show::entanglement(s);
-    match entangled {
-        Entangled::Ratio(d, w, ratio) => TangleEntanglement {
+    let squared = calls_show::squared_entanglement(s);
+    match squared {
+        SquaredEntanglement::Ratio(d, w, ratio) => TangleSquaredEntanglement {
             refusal: 0,
             row: 0,
             displacement: d,
@@ -73,21 +76,46 @@ pub extern "C" fn tangle_entanglement(s: &[u8]) -> TangleEntanglement
             has_ratio: 1,
             ratio: ratio,
         },
-        Entangled::NoRatio => no_ratio(0, 0),
-        Entangled::Refused(refusal) => no_ratio(refusal.number, refusal.row),
+        SquaredEntanglement::NoRatio => no_squared(0, 0),
+        SquaredEntanglement::Refused(refusal) => no_squared(refusal.number, refusal.row),
     }
 }
 
 // The refusal's number and its row, or 0 and 0 for a single leaf, and no ratio.
-fn no_ratio(number: u16, row: u16) -> TangleEntanglement
-    ensures { λ r. ⌜ r ≡ noRatio number row ⌝ }
+fn no_squared(number: u16, row: u16) -> TangleSquaredEntanglement
+    ensures { λ r. ⌜ r ≡ noSquared number row ⌝ }
 {
-    TangleEntanglement {
+    TangleSquaredEntanglement {
         refusal: number as u32,
         row: row as u32,
         displacement: 0,
         worst: 0,
         has_ratio: 0,
         ratio: 0.0,
+    }
+}
+
+// The entanglement of any bytes in thousandths, or no ratio for a single leaf; or the refusal.
+#[no_mangle]
+pub extern "C" fn tangle_thousandths(s: &[u8]) -> TangleThousandths
+    ensures { λ r. ⌜ TellsThousandthsForC (now (s .entry)) r ⌝ }
+{
+    let entangled = calls_show::thousandths(s);
+    match entangled {
+        InThousandths::Ratio(k) => told_thousandths(0, 0, 1, k),
+        InThousandths::NoRatio => told_thousandths(0, 0, 0, 0),
+        InThousandths::Refused(refusal) => told_thousandths(refusal.number, refusal.row, 0, 0),
+    }
+}
+
+// The refusal's number and its row, whether there is a ratio, and its root in thousandths.
+fn told_thousandths(number: u16, row: u16, has_ratio: u32, thousandths: u32) -> TangleThousandths
+    ensures { λ r. ⌜ r ≡ toldThousandths number row has_ratio thousandths ⌝ }
+{
+    TangleThousandths {
+        refusal: number as u32,
+        row: row as u32,
+        has_ratio: has_ratio,
+        thousandths: thousandths,
     }
 }

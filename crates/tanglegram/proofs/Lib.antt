@@ -13,6 +13,7 @@ pub mod Sides
 pub mod Run
 pub mod Alternating
 pub mod Entanglement
+pub mod Thousandths
 pub mod Turning
 pub mod Table
 pub mod OwnPairs

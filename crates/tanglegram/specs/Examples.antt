@@ -3,6 +3,7 @@
 use Prim.Native.Nat.{ℕ, suc, pred, _+_, _*_}
 use mathlib.Core.Bool.{Bool, true, false, not}
 use mathlib.Core.List.{List, [], _∷_, map}
+use mathlib.Core.Option.{Option, some, none}
 use lib.Dec.{eqb}
 use lib.ListN.{getD}
 use Rattle.tanglegram.specs.Lists.{place, range}
@@ -50,11 +51,13 @@ pub record Shown : Type 0 where
   pub counts : List ℕ
   pub last-layouts : Layouts
 
--- A line: the example's number in the customer's list, 0 for the case of the inverse.
+-- A line: the example's number in the customer's list, 0 for the case of the inverse; the case; what is shown of it; and its entanglement
+-- in thousandths, which a single leaf and a refused case do not have.
 pub record Line : Type 0 where
   pub example : ℕ
   pub from : Case
   pub shows : Shown
+  pub thousandths : Option ℕ
 
 -- ---- what the definitions say of a case
 
@@ -351,28 +354,28 @@ notInverseShown = record {
 
 -- ---- the list
 
-abbrev line : ℕ → Case → Shown → Line
-line k g x = record { example = k; from = g; shows = x }
+abbrev line : ℕ → Case → Shown → Option ℕ → Line
+line i g x k = record { example = i; from = g; shows = x; thousandths = k }
 
 abbrev good3 : List ℕ
 good3 = 1 ∷ 2 ∷ 4 ∷ 3 ∷ []
 
 abbrev pub examples : List Line
 examples =
-    line 1 case2 case2Shown
-    ∷ line 2 case2 case2Shown
-    ∷ line 3 case2 case2Shown
-    ∷ line 4 case2 case2Shown
-    ∷ line 5 (rootsTie (bytesOf (0 ∷ 0 ∷ []) (0 ∷ 0 ∷ []))) rootsTieShown
-    ∷ line 5 (rootsTie (bytesOf (1 ∷ 0 ∷ []) (0 ∷ 1 ∷ []))) clearedShown
-    ∷ line 6 gainsInTurn2 gainsInTurn2Shown
-    ∷ line 7 (oneLeaf 2) (oneLeafShown 2 true (0 ∷ 0 ∷ 0 ∷ []))
-    ∷ line 7 (oneLeaf 1) (oneLeafShown 1 false (0 ∷ 0 ∷ []))
-    ∷ line 8 twoLeaves twoLeavesShown
-    ∷ line 9 (rowsOver3 (1 ∷ 2 ∷ 1 ∷ 3 ∷ []) good3) (refusedShown 7 2)
-    ∷ line 9 (rowsOver3 good3 (1 ∷ 2 ∷ 1 ∷ 3 ∷ [])) (refusedShown 8 2)
-    ∷ line 9 (rowsOver3 (1 ∷ 5 ∷ 2 ∷ 3 ∷ []) good3) (refusedShown 7 1)
-    ∷ line 9 (rowsOver3 good3 (1 ∷ 5 ∷ 2 ∷ 3 ∷ [])) (refusedShown 8 1)
-    ∷ line 10 (rootsTie (bytesOf (0 ∷ 0 ∷ []) (0 ∷ 0 ∷ []))) rootsTieShown
-    ∷ line 0 notInverse notInverseShown
+    line 1 case2 case2Shown (some 948)
+    ∷ line 2 case2 case2Shown (some 948)
+    ∷ line 3 case2 case2Shown (some 948)
+    ∷ line 4 case2 case2Shown (some 948)
+    ∷ line 5 (rootsTie (bytesOf (0 ∷ 0 ∷ []) (0 ∷ 0 ∷ []))) rootsTieShown (some 500)
+    ∷ line 5 (rootsTie (bytesOf (1 ∷ 0 ∷ []) (0 ∷ 1 ∷ []))) clearedShown (some 0)
+    ∷ line 6 gainsInTurn2 gainsInTurn2Shown (some 500)
+    ∷ line 7 (oneLeaf 2) (oneLeafShown 2 true (0 ∷ 0 ∷ 0 ∷ [])) none
+    ∷ line 7 (oneLeaf 1) (oneLeafShown 1 false (0 ∷ 0 ∷ [])) none
+    ∷ line 8 twoLeaves twoLeavesShown (some 1000)
+    ∷ line 9 (rowsOver3 (1 ∷ 2 ∷ 1 ∷ 3 ∷ []) good3) (refusedShown 7 2) none
+    ∷ line 9 (rowsOver3 good3 (1 ∷ 2 ∷ 1 ∷ 3 ∷ [])) (refusedShown 8 2) none
+    ∷ line 9 (rowsOver3 (1 ∷ 5 ∷ 2 ∷ 3 ∷ []) good3) (refusedShown 7 1) none
+    ∷ line 9 (rowsOver3 good3 (1 ∷ 5 ∷ 2 ∷ 3 ∷ [])) (refusedShown 8 1) none
+    ∷ line 10 (rootsTie (bytesOf (0 ∷ 0 ∷ []) (0 ∷ 0 ∷ []))) rootsTieShown (some 500)
+    ∷ line 0 notInverse notInverseShown (some 1000)
     ∷ []

@@ -3,8 +3,8 @@ use Prim.Native.Nat.{ℕ, zero, suc, _*_, _-_, _/_, _≤_, _<_}
 use mathlib.Core.Path.{_≡_, sym, ap, ap₂, _∙_}
 use native.Mathlib.Nat.{mul-assoc, mul-le-mul, mul-one, mul-pos, mul-sub, le-mul-of-pos-right}
 use native.Mathlib.Omega.{arith}
-use Rattle.work_displacement.proofs.entangled.worst_value.Statement.{statement}
-use Rattle.work_displacement.proofs.entangled.worst_value.Tie as tie
+use Rattle.work_displacement.proofs.displacement.worst_value.Statement.{statement}
+use Rattle.work_displacement.proofs.displacement.worst_value.Tie as tie
 
 square-most : (n : ℕ) → n ≤ 512 → n * n ≤ 262144
 square-most n h = mul-le-mul h h

@@ -7,8 +7,8 @@ use Rattle.tanglegram.specs.Lists.{range}
 use Rattle.work_places.specs.Arrays.{at}
 use Rattle.work_places.proofs.Arrays.{each-leaf}
 use Rattle.tanglegram.proofs.ListSums.{sum-last}
-use Rattle.work_displacement.proofs.entangled.displaced.Statement.{statement}
-use Rattle.work_displacement.proofs.entangled.displaced.Tie as tie
+use Rattle.work_displacement.proofs.displacement.displaced.Statement.{statement}
+use Rattle.work_displacement.proofs.displacement.displaced.Tie as tie
 
 abbrev Inv-loop : tie.InvT-loop
 Inv-loop left far n total₀ i₀ total i =

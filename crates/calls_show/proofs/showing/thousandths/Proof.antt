@@ -1,12 +1,11 @@
--- `entanglement`: a refusal, a single leaf, and the ratio of two numbers below 2 to the 53.
+-- `thousandths`: a refusal, a single leaf, and the largest k of a D that is at most W.
 use mathlib.Core.Path.{sym, _∙_}
-use Rattle.calls_show.specs.Calls.{ratio}
 use Rattle.record_fields.proofs.Told.{refusal-own}
 use Rattle.record_arrays.proofs.AsItStands.{long-enough, over-n}
-use Rattle.calls_show.proofs.Outcomes.{entangled-refused, entangled-none, entangled-ratio}
+use Rattle.calls_show.proofs.Outcomes.{thousandths-refused, thousandths-none, thousandths-asked, thousandths-ratio}
 use borrow.Author.Needs.{needs}
-use Rattle.calls_show.proofs.showing.entanglement.Statement.{statement}
-use Rattle.calls_show.proofs.showing.entanglement.Tie as tie
+use Rattle.calls_show.proofs.showing.thousandths.Statement.{statement}
+use Rattle.calls_show.proofs.showing.thousandths.Tie as tie
 
 refusal-number-requires : tie.Need-refusal-number-requires
 refusal-number-requires c κs = search needs
@@ -17,7 +16,7 @@ told-requires c κs = refusal-own _ (c .before .refusal-number .ensures)
 returns : tie.Need-returns
 returns c =
     let t = c .before in
-    entangled-refused _ (c .told .ensures) (t .before .refusal-number .ensures) (t .if1 .taken)
+    thousandths-refused _ (c .told .ensures) (t .before .refusal-number .ensures) (t .if1 .taken)
 
 size-of-requires : tie.Need-size-of-requires
 size-of-requires c κs = long-enough _ (sym (c .before .refusal-number .ensures) ∙ c .if1 .left)
@@ -25,7 +24,7 @@ size-of-requires c κs = long-enough _ (sym (c .before .refusal-number .ensures)
 returns-2 : tie.Need-returns-2
 returns-2 c =
     let p = c .before .before in
-    entangled-none _ (sym (p .before .refusal-number .ensures) ∙ p .if1 .left) (c .before .size-of .ensures) (c .if2 .taken)
+    thousandths-none _ (sym (p .before .refusal-number .ensures) ∙ p .if1 .left) (c .before .size-of .ensures) (c .if2 .taken)
 
 record-displaced-requires : tie.Need-record-displaced-requires
 record-displaced-requires c κs =
@@ -40,22 +39,22 @@ worst-value-requires c κs =
     let p = c .before .before .before in
     over-n _ (sym (p .before .refusal-number .ensures) ∙ p .if1 .left) (c .before .before .size-of .ensures) .sized .most
 
-int-to-float-t9 : tie.Need-int-to-float-t9
-int-to-float-t9 c = search needs
-
-int-to-float-t10 : tie.Need-int-to-float-t10
-int-to-float-t10 c = search needs
+thousandths-requires : tie.Need-thousandths-requires
+thousandths-requires c κs =
+    let q = c .before .before in
+    let p = q .before .before in
+    thousandths-asked _ (sym (p .before .refusal-number .ensures) ∙ p .if1 .left) (q .before .size-of .ensures) (q .if2 .left)
+    (c .before .record-displaced .ensures) (c .worst-value .ensures)
 
 returns-3 : tie.Need-returns-3
-unfolding ratio
 returns-3 c =
-    let q = c .before .before .before .before in
+    let q = c .before .before .before in
     let p = q .before .before in
-    entangled-ratio _ (sym (p .before .refusal-number .ensures) ∙ p .if1 .left) (q .before .size-of .ensures) (q .if2 .left)
-    (c .before .before .before .record-displaced .ensures) (c .before .before .worst-value .ensures)
+    thousandths-ratio _ (sym (p .before .refusal-number .ensures) ∙ p .if1 .left) (q .before .size-of .ensures) (q .if2 .left)
+    (c .before .before .record-displaced .ensures) (c .before .worst-value .ensures) (c .thousandths .ensures)
 
-pub entanglement-spec : {M : Type 1} → statement M
-entanglement-spec =
+pub thousandths-spec : {M : Type 1} → statement M
+thousandths-spec =
     tie.close
     (tie.spec
     refusal-number-requires
@@ -66,6 +65,5 @@ entanglement-spec =
     record-displaced-requires
     cast-worst-value
     worst-value-requires
-    int-to-float-t9
-    int-to-float-t10
+    thousandths-requires
     returns-3)

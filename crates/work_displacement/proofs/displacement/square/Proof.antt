@@ -4,8 +4,8 @@ use mathlib.Core.Path.{ap}
 use native.Mathlib.Nat.{mul-le-mul}
 use native.Mathlib.Omega.{arith}
 use borrow.Author.Needs.{needs}
-use Rattle.work_displacement.proofs.entangled.square.Statement.{statement}
-use Rattle.work_displacement.proofs.entangled.square.Tie as tie
+use Rattle.work_displacement.proofs.displacement.square.Statement.{statement}
+use Rattle.work_displacement.proofs.displacement.square.Tie as tie
 
 small : (c : tie.After-apart) → c .apart .result * c .apart .result ≤ 261121
 small c = let h : c .apart .result ≤ 511 = omega arith in mul-le-mul h h

@@ -1,4 +1,4 @@
-// Entanglement: the sum of the squares of left place less right place, and its worst value.
+// Displacement: the sum of the squares of left place less right place, and its worst value.
 ghost use mathlib.Core.Path.{_≡_};
 ghost use Prim.Native.Nat.{_+_, _-_, _<_, _≤_};
 ghost use Rattle.tanglegram.specs.Entanglement.{squared, sum, worst};
