@@ -1,6 +1,7 @@
 -- The calls' statements fix their outcomes: each part of two outcomes equals one and the same thing.
 use mathlib.Core.Path.{_≡_, refl}
 use Rattle.record.proofs.Outcomes.{equal-to-one}
+use Rattle.calls_show.proofs.Outcomes.{one-thousandths}
 use Rattle.promises.specs.Outcomes as Outcomes
 use Rattle.promises.specs.Outcomes.{UnpackOutcome}
 
@@ -24,7 +25,8 @@ outcomes = record {
   pack = λ P out a b x y p q. (equal-to-one (p .answers) (q .answers), equal-to-one (p .afterwards) (q .afterwards));
   order = λ s side out a b x y p q. (equal-to-one (p .answers) (q .answers), equal-to-one (p .afterwards) (q .afterwards));
   count = λ s a b p q. equal-to-one (p .answers) (q .answers);
-  entanglement = λ s a b p q. equal-to-one (p .answers) (q .answers);
+  squared-entanglement = λ s a b p q. equal-to-one (p .answers) (q .answers);
+  thousandths = λ s a b p q. one-thousandths s a b (p .answers) (q .answers);
   free = λ s side a b x y p q. (equal-to-one (p .answers) (q .answers), equal-to-one (p .afterwards) (q .afterwards));
   run = λ s allowance a b x y p q. (equal-to-one (p .answers) (q .answers), equal-to-one (p .afterwards) (q .afterwards));
   hands = λ s hands a b x y p q. (equal-to-one (p .answers) (q .answers), equal-to-one (p .afterwards) (q .afterwards));

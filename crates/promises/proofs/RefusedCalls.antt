@@ -17,7 +17,10 @@ use Rattle.record_packing.specs.Refusals.{packRefusal}
 use Rattle.calls_show.specs.declared.answers.SquaredEntanglement.{SquaredEntanglement}
 use Rattle.calls_show.specs.declared.answers.SquaredEntanglement.the-variants.{Ratio, NoRatio, Refused}
 use Rattle.calls_show.specs.Refusals.{orderRefusal}
+use Rattle.calls_show.specs.declared.answers.InThousandths.{InThousandths}
+use Rattle.calls_show.specs.declared.answers.InThousandths.the-variants as in-thousandths
 use Rattle.calls_show.specs.Calls.{squaredEntanglement, squaredRefusal, displacedIn, worstIn, ratioIn}
+use Rattle.calls_show.specs.Calls.{thousandthsRefusal, thousandthsIn}
 use Rattle.calls_turns.specs.Refusals.{freeRefusal, runRefusal}
 use Rattle.calls_hands.specs.Refusals.{handsRefusal}
 use Rattle.calls_better.specs.Refusals.{betterRefusal}
@@ -65,7 +68,8 @@ refused-calls = record {
       o .afterwards ∙ rw (ne-eqb (orderRefusal s side out) 0 (λ z. h (ap (λ a. a .number) (o .answers) ∙ z))) refl;
   count = λ s answer o h.
       ap (λ a. a .count) (o .answers) ∙ rw (ne-eqb (refusal s) 0 (λ z. h (ap (λ a. a .refusal .number) (o .answers) ∙ z))) refl;
-  entanglement = λ s answer o h. no-squared answer h;
+  squared-entanglement = λ s answer o h. no-squared answer h;
+  thousandths = λ s answer o h. no-thousandths answer h;
   free = λ s side answer s′ o h.
       let e = ne-eqb (freeRefusal s side) 0 (λ z. h (ap (λ a. a .refusal .number) (o .answers) ∙ z)) in
       (o .afterwards ∙ rw e refl, ap (λ a. a .before) (o .answers) ∙ rw e refl, ap (λ a. a .after) (o .answers) ∙ rw e refl);
@@ -108,3 +112,8 @@ refused-calls = record {
     no-squared (Ratio d w x) h = absurd (h refl)
     no-squared NoRatio h = absurd (h refl)
     no-squared (Refused r) h = (refl, refl, refl)
+
+    no-thousandths : (answer : InThousandths) → thousandthsRefusal answer .number ≢ 0 → thousandthsIn answer ≡ none
+    no-thousandths (in-thousandths.Ratio k) h = absurd (h refl)
+    no-thousandths in-thousandths.NoRatio h = absurd (h refl)
+    no-thousandths (in-thousandths.Refused r) h = refl

@@ -14,7 +14,7 @@ use Rattle.record.specs.Calls.{readingOf, readingRefusal}
 use Rattle.record_unpacking.proofs.Unpacked.{unpack-own}
 use Rattle.record_packing.proofs.Packed.{pack-own}
 use Rattle.calls_show.specs.Calls.{squaredRefusal}
-use Rattle.calls_show.proofs.Outcomes.{order-own, squared-told}
+use Rattle.calls_show.proofs.Outcomes.{order-own, squared-told, thousandths-told}
 use Rattle.calls_turns.proofs.Turns.{free-own, run-own}
 use Rattle.calls_hands.proofs.HandLists.{hands-own}
 use Rattle.calls_better.proofs.Compared.{compare-own}
@@ -42,7 +42,8 @@ row-told = record {
   pack = λ P out answer out′ p. tells-row-in P (pack-own P out) (p .answers);
   order = λ s side out answer out′ p. tells-row s (order-own s side out refl) (p .answers);
   count = λ s answer p. tells-row s (refusal-own s refl) (ap (λ a. a .refusal) (p .answers));
-  entanglement = λ s answer p. tells-row s (refusal-own s refl) (ap squaredRefusal (p .answers) ∙ squared-told s);
+  squared-entanglement = λ s answer p. tells-row s (refusal-own s refl) (ap squaredRefusal (p .answers) ∙ squared-told s);
+  thousandths = λ s answer p. tells-row s (refusal-own s refl) (thousandths-told s answer (p .answers));
   free = λ s side answer s′ p. tells-row s (free-own s side refl) (ap (λ a. a .refusal) (p .answers));
   run = λ s allowance answer s′ p. tells-row s (run-own s allowance refl) (ap (λ a. a .refusal) (p .answers));
   hands = λ s hands answer s′ p. tells-row s (hands-own s hands refl) (p .answers);

@@ -3,6 +3,7 @@ use Prim.Native.Nat.{ℕ, pred, _-_, _*_, _<_}
 use mathlib.Core.Path.{_≡_, refl, sym, ap, _∙_}
 use mathlib.Core.Logic.{_⊎_, ⊎-elim}
 use mathlib.Core.List.{List, [], _∷_}
+use mathlib.Core.Option.{Option·some-ne-none}
 use native.Mathlib.Omega.{arith}
 use borrow.Author.Tests.{ne-eqb}
 use lib.ListN.{getD}
@@ -12,7 +13,8 @@ use Rattle.tanglegram.specs.Order.{order, write}
 use Rattle.tanglegram.specs.Crossings.{over, across, pairs, count}
 use Rattle.tanglegram.specs.Freeing.{choose, freed}
 use Rattle.tanglegram.specs.Run.{left, after}
-use Rattle.tanglegram.specs.Examples.{gainsInTurn2}
+use Rattle.tanglegram.specs.Entanglement.{sum, displacement, worst}
+use Rattle.tanglegram.specs.Examples.{case2, gainsInTurn2, oneLeaf}
 use Rattle.work_trees.specs.Rows.{upper, lower}
 use Rattle.work_tree_rule.specs.Rule.{among, first, badRow}
 use Rattle.newick.specs.Sentence.{Sentence, number, group, none}
@@ -24,7 +26,7 @@ use Rattle.record_fields.specs.Fields.{sizeOf, parts, numbers, split, partsOf, 
 use Rattle.record_fields.specs.Refusals.{all, isMark, isHold, noSize, breaksRule, oneToOne, isLayout, contentsRefusal, headingRefusal}
 use Rattle.record_fields.specs.Refusals.{refusal}
 use Rattle.record_fields.specs.Meaning.{relaid}
-use Rattle.record_arrays.specs.Shown.{shownCount}
+use Rattle.record_arrays.specs.Shown.{shownCount, shownDisplacement}
 use Rattle.calls_better.specs.Refusals.{betterRefusal}
 use Rattle.calls_better.specs.Calls.{betterWhich}
 use Rattle.promises.specs.Demand2.{FreeKeeps}
@@ -39,7 +41,7 @@ use Rattle.promises.specs.Cases.{recordOf, case2Freed}
 use Rattle.promises.specs.MergeExamples.{plus, example1}
 use Rattle.promises.proofs.Merge.{told-number}
 use Rattle.promises.specs.Newick.{ReadAs}
-use Rattle.promises.specs.Tried.{tied, byte2, bothBad, goodText, badText, nines, twiceThenZero, ownRow, leafTwice, Tried}
+use Rattle.promises.specs.Tried.{tied, byte2, cleared, bothBad, goodText, badText, nines, twiceThenZero, ownRow, leafTwice, Tried}
 
 -- the record is accepted, and with the byte 2 it is refused
 refusals : (refusal tied ≡ 0) × (refusal byte2 ≡ 10)
@@ -55,6 +57,15 @@ root k = k .turned-or-kept .0
 same : shownCount byte2 ≡ shownCount tied
 unfolding order leaves deep object count place range over across pairs used numbers split partsOf packed relaid
 same = refl
+
+-- D and W of example 4; the leaves of a record over one, and of one where nothing crosses
+measured : (shownDisplacement (recordOf case2) ≡ 18) × (worst (sizeOf (recordOf case2)) ≡ 20)
+unfolding order leaves deep object place range over across pairs sum displacement numbers split partsOf packed
+measured = (refl, refl)
+
+leaf-counts : (sizeOf (recordOf (oneLeaf 2)) ≡ 1) × (sizeOf cleared ≡ 3)
+unfolding numbers split partsOf packed range
+leaf-counts = (refl, refl)
 
 counts : (countAfter (recordOf gainsInTurn2) 1 ≡ 1) × (countAfter (recordOf gainsInTurn2) 2 ≡ 0)
 unfolding order write leaves deep object count place range over across pairs choose freed after used numbers split partsOf packed
@@ -136,6 +147,12 @@ tried = record {
   settled-at-turn-1 = λ answer s′ e k. let never = k .not-by-one refl in omega (arith, never);
   refused-part-of-second = λ s side first second first-at second-at ne h b.
       ne (sym (b .begins ∙ rw (ne-eqb (betterRefusal s side first second) 0 h) refl));
+  rounded = λ k. let h = k .root 949 refl .largest .has in omega (arith, h, measured);
+  no-root = λ k. let h = k .root 900 refl .largest .most 901 (omega (arith, measured)) in omega (arith, h);
+  thousand-for-million = λ k. let h = k .root 30 refl .largest .most 31 (omega (arith, measured)) in omega (arith, h);
+  one-leaf-told = λ k. Option·some-ne-none 0 (k .no-ratio .1 (leaf-counts .0));
+  no-ratio-told = λ k. let e = k .no-ratio .0 refl in omega (arith, e, leaf-counts .1);
+  refused-by-0 = λ s t. t .answers .0 (sym (ap (λ r. r .number) (t .answers .1)));
   refuses-good-text = λ k. k .breaks-grammar .0 refl goodSentence (read-spells goodText goodSentence [] good-read .1);
   leaf-twice-first = λ k. let p = k .not-numbered .0 refl in no-sentence (p .0) (spells-read badText (p .0) (p .1));
   opening-order = λ k.

@@ -19,7 +19,9 @@ use Rattle.record_fields.specs.Refused.{refusedRow, accepted, lent, orZero}
 use Rattle.record_fields.specs.Told.{toldOf}
 use Rattle.record_fields.specs.Meaning.{tableOf}
 use Rattle.record_arrays.specs.Shown.{shownOrder, shownCount}
-use Rattle.calls_show.specs.Calls.{squaredEntanglement, displacedIn, worstIn, ratioIn}
+use Rattle.calls_show.specs.declared.answers.InThousandths.{InThousandths}
+use Rattle.calls_show.specs.declared.answers.InThousandths.the-variants as in-thousandths
+use Rattle.calls_show.specs.Calls.{squaredEntanglement, displacedIn, worstIn, ratioIn, TellsThousandths}
 use Rattle.calls_turns.specs.Refusals.{freeRefusal, runRefusal}
 use Rattle.calls_turns.specs.Calls.{freedLayouts, ranTo}
 use Rattle.calls_newick.specs.Refusals.{said, newickReadRefusal, writtenText}
@@ -76,6 +78,20 @@ abbrev told : Line → Called
 told l =
     let r = refusedRow (l .shows .refused) (l .shows .bad-row) in
     record { read-refused = r; free-refused = r; run-refused = r; shown = l .shows }
+
+-- Its entanglement in thousandths is the line's: k; without one, no ratio, or the line's refusal.
+abbrev pub thousandthsTold : Line → InThousandths
+thousandthsTold l = answered (l .thousandths)
+  where
+    answered : Option ℕ → InThousandths
+    answered (some k) = in-thousandths.Ratio k
+    answered none =
+        cond (accepted (l .shows .refused)) in-thousandths.NoRatio
+        (in-thousandths.Refused (refusedRow (l .shows .refused) (l .shows .bad-row)))
+
+abbrev pub AllTold : List Line → Type 0
+AllTold [] = Unit {0}
+AllTold (l ∷ ls) = TellsThousandths (recordOf (l .from)) (thousandthsTold l) × AllTold ls
 
 -- ---- Newick text
 
@@ -162,6 +178,7 @@ tableRead l =
 -- All examples: the customer's list; texts and tables read, and written.
 pub record Examples : Type 0 where
   pub table : map (λ l. called (l .from)) examples ≡ map told examples
+  pub in-thousandths : AllTold examples
   pub texts-read : map (λ l. readTo (l .text) (l .buffer)) textExamples ≡ map (λ l. l .comes-to) textExamples
   pub texts-written : map (λ l. writtenText (recordOf (l .from)) (l .side)) writtenExamples ≡ map (λ l. l .text) writtenExamples
   pub tables-read : map tableRead tableExamples ≡ tableExamples

@@ -10,7 +10,7 @@ use Rattle.record.specs.Calls.{Checks, Reads, SetsHold}
 use Rattle.record_unpacking.specs.declared.unpacking.Unpacked.{Unpacked}
 use Rattle.record_unpacking.specs.Calls.{Unpacks}
 use Rattle.record_packing.specs.Calls.{Packs}
-use Rattle.calls_show.specs.Calls.{Orders, Counts, SquaredEntangles}
+use Rattle.calls_show.specs.Calls.{Orders, Counts, SquaredEntangles, TellsThousandths}
 use Rattle.calls_turns.specs.Calls.{Frees, Runs}
 use Rattle.calls_hands.specs.Refusals.{Hand}
 use Rattle.calls_hands.specs.Calls.{Hands}
@@ -41,7 +41,8 @@ pub record Outcomes : Type 0 where
   pub order : (s : List ℕ) (side : ℕ) (out : List ℕ) → FixesBoth (Orders s side out)
   -- Of count and of pairs, and of one against the other.
   pub count : (s : List ℕ) → Fixes (Counts s)
-  pub entanglement : (s : List ℕ) → Fixes (SquaredEntangles s)
+  pub squared-entanglement : (s : List ℕ) → Fixes (SquaredEntangles s)
+  pub thousandths : (s : List ℕ) → Fixes (TellsThousandths s)
   pub free : (s : List ℕ) (side : ℕ) → FixesBoth (Frees s side)
   pub run : (s : List ℕ) (allowance : ℕ) → FixesBoth (Runs s allowance)
   -- Of both forms, and of one against the other.

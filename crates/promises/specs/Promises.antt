@@ -18,7 +18,7 @@ pub record Promises : Type 0 where
   pub demand2 : Demand2
   -- A run's turns alternate, never raise the count, are few, and end settled in time; settled is least on either side alone.
   pub demand3 : Demand3
-  -- D, W and their ratio; a row that is turned over by hand twice is as it was.
+  -- D, W and their ratio, and its root in thousandths; a row that is turned over by hand twice is as it was.
   pub entanglement : Entanglement
   pub hands-twice : HandsTwice
   -- Newick text is read and refused by its grammar, and what is written is read back the same.

@@ -13,7 +13,9 @@ use Rattle.record.specs.Calls.{Reads, readingRefusal, holdIn, sizeIn, SetsHold}
 use Rattle.record_packing.specs.Calls.{Packs}
 use Rattle.calls_show.specs.declared.answers.Counted.{Counted}
 use Rattle.calls_show.specs.declared.answers.SquaredEntanglement.{SquaredEntanglement}
+use Rattle.calls_show.specs.declared.answers.InThousandths.{InThousandths}
 use Rattle.calls_show.specs.Calls.{Orders, Counts, SquaredEntangles, squaredRefusal, displacedIn, worstIn, ratioIn}
+use Rattle.calls_show.specs.Calls.{TellsThousandths, thousandthsRefusal, thousandthsIn}
 use Rattle.calls_turns.specs.declared.answers.Freed.{Freed}
 use Rattle.calls_turns.specs.declared.answers.Ran.{Ran}
 use Rattle.calls_turns.specs.Calls.{Frees, Runs}
@@ -49,8 +51,10 @@ pub record RefusedCalls : Type 0 where
   pub order : (s : List ℕ) (side : ℕ) (out : List ℕ) (answer : Refusal) (out′ : List ℕ) → Orders s side out answer out′ →
       answer .number ≢ 0 → out′ ≡ out
   pub count : (s : List ℕ) (answer : Counted) → Counts s answer → answer .refusal .number ≢ 0 → answer .count ≡ 0
-  pub entanglement : (s : List ℕ) (answer : SquaredEntanglement) → SquaredEntangles s answer → squaredRefusal answer .number ≢ 0 →
+  pub squared-entanglement : (s : List ℕ) (answer : SquaredEntanglement) → SquaredEntangles s answer → squaredRefusal answer .number ≢ 0 →
       (displacedIn answer ≡ 0) × (worstIn answer ≡ 0) × (ratioIn answer ≡ none)
+  pub thousandths : (s : List ℕ) (answer : InThousandths) → TellsThousandths s answer → thousandthsRefusal answer .number ≢ 0 →
+      thousandthsIn answer ≡ none
   pub free : (s : List ℕ) (side : ℕ) (answer : Freed) (s′ : List ℕ) → Frees s side answer s′ → answer .refusal .number ≢ 0 →
       (s′ ≡ s) × (answer .before ≡ 0) × (answer .after ≡ 0)
   pub run : (s : List ℕ) (allowance : ℕ) (answer : Ran) (s′ : List ℕ) → Runs s allowance answer s′ → answer .refusal .number ≢ 0 →

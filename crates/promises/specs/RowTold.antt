@@ -13,7 +13,8 @@ use Rattle.record.specs.Calls.{Checks, Reads, readingRefusal, SetsHold}
 use Rattle.record_packing.specs.Calls.{Packs}
 use Rattle.calls_show.specs.declared.answers.Counted.{Counted}
 use Rattle.calls_show.specs.declared.answers.SquaredEntanglement.{SquaredEntanglement}
-use Rattle.calls_show.specs.Calls.{Orders, Counts, SquaredEntangles, squaredRefusal}
+use Rattle.calls_show.specs.declared.answers.InThousandths.{InThousandths}
+use Rattle.calls_show.specs.Calls.{Orders, Counts, SquaredEntangles, squaredRefusal, TellsThousandths, thousandthsRefusal}
 use Rattle.calls_turns.specs.declared.answers.Freed.{Freed}
 use Rattle.calls_turns.specs.declared.answers.Ran.{Ran}
 use Rattle.calls_turns.specs.Calls.{Frees, Runs}
@@ -42,7 +43,8 @@ pub record RowTold : Type 0 where
   pub order : (s : List ℕ) (side : ℕ) (out : List ℕ) (answer : Refusal) (out′ : List ℕ) → Orders s side out answer out′ → Says s answer
   -- Of count and of pairs.
   pub count : (s : List ℕ) (answer : Counted) → Counts s answer → Says s (answer .refusal)
-  pub entanglement : (s : List ℕ) (answer : SquaredEntanglement) → SquaredEntangles s answer → Says s (squaredRefusal answer)
+  pub squared-entanglement : (s : List ℕ) (answer : SquaredEntanglement) → SquaredEntangles s answer → Says s (squaredRefusal answer)
+  pub thousandths : (s : List ℕ) (answer : InThousandths) → TellsThousandths s answer → Says s (thousandthsRefusal answer)
   pub free : (s : List ℕ) (side : ℕ) (answer : Freed) (s′ : List ℕ) → Frees s side answer s′ → Says s (answer .refusal)
   pub run : (s : List ℕ) (allowance : ℕ) (answer : Ran) (s′ : List ℕ) → Runs s allowance answer s′ → Says s (answer .refusal)
   -- Of both forms.

@@ -5,18 +5,21 @@ use mathlib.Core.Logic.{_≢_}
 use mathlib.Core.List.{List, [], _∷_}
 use lib.IntN.{ℤ}
 use Rattle.tanglegram.specs.Run.{left}
-use Rattle.tanglegram.specs.Examples.{bytesOf, rootsTie, gainsInTurn2, oneLeaf}
+use Rattle.tanglegram.specs.Examples.{bytesOf, case2, rootsTie, gainsInTurn2, oneLeaf}
 use Rattle.record_fields.specs.Fields.{Parts, given}
 use Rattle.record_fields.specs.Meaning.{relaid}
 use Rattle.record_fields.specs.Refused.{refused}
 use Rattle.record_fields.specs.Told.{SaysRow}
 use Rattle.record_arrays.specs.Shown.{shownCount}
+use Rattle.calls_show.specs.declared.answers.InThousandths.the-variants as in-thousandths
+use Rattle.calls_show.specs.Calls.{TellsThousandths}
 use Rattle.calls_turns.specs.declared.answers.Ran.{Ran}
 use Rattle.calls_better.specs.Refusals.{betterRefusal}
 use Rattle.calls_better.specs.Calls.{betterWhich, Address, Betters}
 use Rattle.promises.specs.HeldStays.{Keeps}
 use Rattle.promises.specs.Demand2.{FreeKeeps}
 use Rattle.promises.specs.Demand3.{RunKeeps}
+use Rattle.promises.specs.Entanglement.{ThousandthsKeeps}
 use Rattle.promises.specs.Newick.{Reading, Writing}
 use Rattle.promises.specs.Merge.{TableReading, TableWriting}
 use Rattle.promises.specs.Cases.{recordOf, case2Freed}
@@ -29,6 +32,10 @@ tied = recordOf (rootsTie (bytesOf (0 ∷ 0 ∷ []) (0 ∷ 0 ∷ [])))
 
 abbrev pub byte2 : List ℕ
 byte2 = relaid tied (bytesOf (0 ∷ 2 ∷ []) (0 ∷ 0 ∷ []))
+
+-- Example 5 with the layouts at which nothing crosses.
+abbrev pub cleared : List ℕ
+cleared = recordOf (rootsTie (bytesOf (1 ∷ 0 ∷ []) (0 ∷ 1 ∷ [])))
 
 -- Rows over three leaves of which both break the tree rule: the first by its range, the second by using its entry twice.
 abbrev pub bothBad : Parts
@@ -83,6 +90,14 @@ pub record Tried : Type 0 where
   -- second, or later in the first.
   pub part-elsewhere : (s : List ℕ) (side : ℕ) (first second : List ℕ) (first-at second-at : Address) (part : List ℕ) (part-at : Address) →
       betterWhich s side first second ≡ 1 → part-at ≢ first-at → Betters s side first second first-at second-at part part-at → ⊥
+  -- Example 4 told as 949, rounded to the nearest or up; as 900, with no root; as 30, the root in thousands.
+  pub rounded : ThousandthsKeeps (recordOf case2) (in-thousandths.Ratio 949) → ⊥
+  pub no-root : ThousandthsKeeps (recordOf case2) (in-thousandths.Ratio 900) → ⊥
+  pub thousand-for-million : ThousandthsKeeps (recordOf case2) (in-thousandths.Ratio 30) → ⊥
+  -- One leaf told as 0; no ratio where nothing crosses; a refusal by the number 0.
+  pub one-leaf-told : ThousandthsKeeps (recordOf (oneLeaf 2)) (in-thousandths.Ratio 0) → ⊥
+  pub no-ratio-told : ThousandthsKeeps cleared in-thousandths.NoRatio → ⊥
+  pub refused-by-0 : (s : List ℕ) → TellsThousandths s (in-thousandths.Refused (refused 0)) → ⊥
   -- Reading that refuses a good text by 18; that tells 19 of a text that breaks the grammar, which has a leaf twice;
   pub refuses-good-text : Reading goodText nines (record { refusal = refused 18; n = 0 }) nines → ⊥
   pub leaf-twice-first : Reading badText nines (record { refusal = refused 19; n = 0 }) nines → ⊥
