@@ -108,14 +108,14 @@ pub extern "C" fn tangle_thousandths(s: &[u8]) -> TangleThousandths
     }
 }
 
-// The refusal's number and its row, whether there is a ratio, and its root in thousandths.
-fn told_thousandths(number: u16, row: u16, has_ratio: u32, thousandths: u32) -> TangleThousandths
-    ensures { λ r. ⌜ r ≡ toldThousandths number row has_ratio thousandths ⌝ }
+// The refusal's number and its row, 1 if there is a ratio or 0 if not, and its root in thousandths.
+fn told_thousandths(number: u16, row: u16, ratio: u32, k: u32) -> TangleThousandths
+    ensures { λ r. ⌜ r ≡ toldThousandths number row ratio k ⌝ }
 {
     TangleThousandths {
         refusal: number as u32,
         row: row as u32,
-        has_ratio: has_ratio,
-        thousandths: thousandths,
+        has_ratio: ratio,
+        thousandths: k,
     }
 }

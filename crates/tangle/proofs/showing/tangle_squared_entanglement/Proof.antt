@@ -1,19 +1,10 @@
 -- `tangle_squared_entanglement`: the three cases of what `calls_show::squared_entanglement` answers, each in C's form.
-use mathlib.Core.Path.{_≡_, refl, sym, ap, _∙_}
-use mathlib.Core.List.{List}
-use Prim.Native.Nat.{ℕ}
+use mathlib.Core.Path.{refl}
 use borrow.Author.Needs.{needs}
-use Rattle.calls_show.specs.declared.answers.SquaredEntanglement.{SquaredEntanglement}
-use Rattle.calls_show.specs.Calls.{SquaredEntangles}
-use Rattle.tangle.specs.declared.answers.TangleSquaredEntanglement.{TangleSquaredEntanglement}
-use Rattle.tangle.specs.ForC.{squaredForC, SquaredEntanglesForC}
+use Rattle.tangle.specs.ForC.{squaredForC}
+use Rattle.tangle.proofs.Cases.{in-case}
 use Rattle.tangle.proofs.showing.tangle_squared_entanglement.Statement.{statement}
 use Rattle.tangle.proofs.showing.tangle_squared_entanglement.Tie as tie
-
--- an answer that is the form of a case that the call's answer is of
-case : {s : List ℕ} {a v : SquaredEntanglement} {answer : TangleSquaredEntanglement} → SquaredEntangles s a → a ≡ v → answer ≡ squaredForC v →
-    SquaredEntanglesForC s answer
-case e is p = record { given = _; called = e; answers = p ∙ ap squaredForC (sym is) }
 
 squared-entanglement-requires : tie.Need-squared-entanglement-requires
 squared-entanglement-requires c κs = search needs
@@ -34,16 +25,16 @@ no-squared-requires-2 : tie.Need-no-squared-requires-2
 no-squared-requires-2 c κs = search needs
 
 returns : tie.Need-returns
-returns c = let p = c .before in case (p .before .before .squared-entanglement .ensures) (p .squared .given .1) refl
+returns c = let p = c .before in in-case squaredForC (p .before .before .squared-entanglement .ensures) (p .squared .given .1) refl
 
 returns-2 : tie.Need-returns-2
 returns-2 c =
-    let p = c .before in case (p .before .before .squared-entanglement .ensures) (p .enum-told .given .1) (c .no-squared .ensures)
+    let p = c .before in in-case squaredForC (p .before .before .squared-entanglement .ensures) (p .enum-told .given .1) (c .no-squared .ensures)
 
 returns-3 : tie.Need-returns-3
 returns-3 c =
     let p = c .before .before in
-    case (p .before .before .squared-entanglement .ensures) (p .squared2 .given .1) (c .no-squared2 .ensures)
+    in-case squaredForC (p .before .before .squared-entanglement .ensures) (p .squared2 .given .1) (c .no-squared2 .ensures)
 
 pub tangle-squared-entanglement-spec : {M : Type 1} → statement M
 tangle-squared-entanglement-spec =
