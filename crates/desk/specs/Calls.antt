@@ -8,11 +8,11 @@ use lib.ListN.{getD}
 use Rattle.desk_words.specs.Words.{placeOf, wordIn}
 use Rattle.desk_words.specs.Bytes.{bytesIn}
 use Rattle.desk.specs.declared.calls.Call.{Call}
-use Rattle.desk.specs.declared.calls.Call.the-variants.{Check, Order, Count, Pairs, Entanglement, Free, Run}
-use Rattle.desk.specs.declared.calls.Call.the-variants.{Hands, Better, BetterCheck, Hold, Pack, Unpack}
+use Rattle.desk.specs.declared.calls.Call.the-variants.{Check, Order, Count, Pairs, SquaredEntanglement, Thousandths}
+use Rattle.desk.specs.declared.calls.Call.the-variants.{Free, Run, Hands, Better, BetterCheck, Hold, Pack, Unpack}
 use Rattle.desk.specs.declared.calls.Call.the-variants.{NewickRead, NewickWrite, MergeRead, MergeWrite, NoCall}
 
--- The names, as bytes: check, order, count, pairs, entanglement, free, run,
+-- The names, as bytes: check, order, count, pairs, squared_entanglement, thousandths, free, run,
 -- hands, better, better_check, hold, pack, unpack,
 -- newick_read, newick_write, merge_read, merge_write.
 unfoldable pub names : List (List ℕ)
@@ -21,7 +21,8 @@ names =
     (111 ∷ 114 ∷ 100 ∷ 101 ∷ 114 ∷ []) ∷
     (99 ∷ 111 ∷ 117 ∷ 110 ∷ 116 ∷ []) ∷
     (112 ∷ 97 ∷ 105 ∷ 114 ∷ 115 ∷ []) ∷
-    (101 ∷ 110 ∷ 116 ∷ 97 ∷ 110 ∷ 103 ∷ 108 ∷ 101 ∷ 109 ∷ 101 ∷ 110 ∷ 116 ∷ []) ∷
+    (115 ∷ 113 ∷ 117 ∷ 97 ∷ 114 ∷ 101 ∷ 100 ∷ 95 ∷ 101 ∷ 110 ∷ 116 ∷ 97 ∷ 110 ∷ 103 ∷ 108 ∷ 101 ∷ 109 ∷ 101 ∷ 110 ∷ 116 ∷ []) ∷
+    (116 ∷ 104 ∷ 111 ∷ 117 ∷ 115 ∷ 97 ∷ 110 ∷ 100 ∷ 116 ∷ 104 ∷ 115 ∷ []) ∷
     (102 ∷ 114 ∷ 101 ∷ 101 ∷ []) ∷
     (114 ∷ 117 ∷ 110 ∷ []) ∷
     (104 ∷ 97 ∷ 110 ∷ 100 ∷ 115 ∷ []) ∷
@@ -38,7 +39,7 @@ names =
 
 -- The calls in the order of their names.
 unfoldable pub calls : List Call
-calls = Check ∷ Order ∷ Count ∷ Pairs ∷ Entanglement ∷ Free ∷ Run ∷
+calls = Check ∷ Order ∷ Count ∷ Pairs ∷ SquaredEntanglement ∷ Thousandths ∷ Free ∷ Run ∷
     Hands ∷ Better ∷ BetterCheck ∷ Hold ∷ Pack ∷ Unpack ∷ NewickRead ∷ NewickWrite ∷ MergeRead ∷ MergeWrite ∷ []
 
 -- The call of a name.
@@ -51,7 +52,8 @@ wordsOf Check = 2
 wordsOf Order = 4
 wordsOf Count = 2
 wordsOf Pairs = 2
-wordsOf Entanglement = 2
+wordsOf SquaredEntanglement = 2
+wordsOf Thousandths = 2
 wordsOf Free = 3
 wordsOf Run = 3
 wordsOf Hands = 3
@@ -72,7 +74,8 @@ lentBy Check = 1
 lentBy Order = 1
 lentBy Count = 1
 lentBy Pairs = 1
-lentBy Entanglement = 1
+lentBy SquaredEntanglement = 1
+lentBy Thousandths = 1
 lentBy Free = 1
 lentBy Run = 1
 lentBy Hands = 1

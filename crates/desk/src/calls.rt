@@ -8,7 +8,8 @@ pub enum Call {
     Order,
     Count,
     Pairs,
-    Entanglement,
+    SquaredEntanglement,
+    Thousandths,
     Free,
     Run,
     Hands,
@@ -29,26 +30,27 @@ pub fn named(name: &[u8]) -> Call
     ensures { λ r. ⌜ r ≡ callNamed (now (name .entry)) ⌝ }
 {
     let names =
-        b"check order count pairs entanglement free run hands better better_check hold pack unpack \
+        b"check order count pairs squared_entanglement thousandths free run hands better better_check hold pack unpack \
           newick_read newick_write merge_read merge_write";
     match place(names, name) {
         0 => Call::Check,
         1 => Call::Order,
         2 => Call::Count,
         3 => Call::Pairs,
-        4 => Call::Entanglement,
-        5 => Call::Free,
-        6 => Call::Run,
-        7 => Call::Hands,
-        8 => Call::Better,
-        9 => Call::BetterCheck,
-        10 => Call::Hold,
-        11 => Call::Pack,
-        12 => Call::Unpack,
-        13 => Call::NewickRead,
-        14 => Call::NewickWrite,
-        15 => Call::MergeRead,
-        16 => Call::MergeWrite,
+        4 => Call::SquaredEntanglement,
+        5 => Call::Thousandths,
+        6 => Call::Free,
+        7 => Call::Run,
+        8 => Call::Hands,
+        9 => Call::Better,
+        10 => Call::BetterCheck,
+        11 => Call::Hold,
+        12 => Call::Pack,
+        13 => Call::Unpack,
+        14 => Call::NewickRead,
+        15 => Call::NewickWrite,
+        16 => Call::MergeRead,
+        17 => Call::MergeWrite,
         _ => Call::NoCall,
     }
 }
@@ -62,7 +64,8 @@ pub fn words(call: Call) -> usize
         Call::Order => 4,
         Call::Count => 2,
         Call::Pairs => 2,
-        Call::Entanglement => 2,
+        Call::SquaredEntanglement => 2,
+        Call::Thousandths => 2,
         Call::Free => 3,
         Call::Run => 3,
         Call::Hands => 3,

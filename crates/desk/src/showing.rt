@@ -1,8 +1,9 @@
-// The calls that change no record: check, order, count, pairs, entanglement, better and its check.
+// The calls that change no record: check, order, count, pairs, squared_entanglement, thousandths, better and its check.
 ghost use mathlib.Core.Bool.{cond};
 ghost use mathlib.Core.Path.{_≡_};
 ghost use lib.Ieee.{binary64, eq, toBits};
 use calls_show::answers::Counted;
+use calls_show::answers::InThousandths;
 use calls_show::answers::SquaredEntanglement;
 use desk_words::lists::list as list_in;
 use desk_words::numbers::number;
@@ -64,7 +65,7 @@ pub fn pairs(s: &[u8]) {
 }
 
 // NUMBER 0 0 none
-fn no_ratio(number: u16, row: u16) {
+fn no_squared(number: u16, row: u16) {
     printing::refusal(number, row);
     printing::text(b" 0 0 none\n")
 }
@@ -88,12 +89,34 @@ fn ratio(d: u32, w: u32, x: f64) {
     printing::end();
 }
 
-// entanglement RECORD -> NUMBER D W RATIO
-pub fn entanglement(s: &[u8]) {
-    match calls_show::entanglement(s) {
+// squared_entanglement RECORD -> NUMBER D W RATIO
+pub fn squared_entanglement(s: &[u8]) {
+    match calls_show::squared_entanglement(s) {
         SquaredEntanglement::Ratio(d, w, x) => ratio(d, w, x),
-        SquaredEntanglement::NoRatio => no_ratio(0, 0),
-        SquaredEntanglement::Refused(refusal) => no_ratio(refusal.number, refusal.row),
+        SquaredEntanglement::NoRatio => no_squared(0, 0),
+        SquaredEntanglement::Refused(refusal) => no_squared(refusal.number, refusal.row),
+    }
+}
+
+// NUMBER none
+fn no_thousandths(number: u16, row: u16) {
+    printing::refusal(number, row);
+    printing::text(b" none\n")
+}
+
+// 0 K
+fn in_thousandths(k: u32) {
+    printing::text(b"0");
+    printing::next(k);
+    printing::end();
+}
+
+// thousandths RECORD -> NUMBER K
+pub fn thousandths(s: &[u8]) {
+    match calls_show::thousandths(s) {
+        InThousandths::Ratio(k) => in_thousandths(k),
+        InThousandths::NoRatio => no_thousandths(0, 0),
+        InThousandths::Refused(refusal) => no_thousandths(refusal.number, refusal.row),
     }
 }
 

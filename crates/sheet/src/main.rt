@@ -1,6 +1,7 @@
 // The sheet of one record: reads it from standard input, shows it as it stands, runs it with the largest allowance and
 // shows it afterwards. A bad record prints only `REFUSED` and its refusal, a held one its first five lines and
 // `REFUSED 11`.
+use calls_show::answers::InThousandths;
 use calls_show::answers::SquaredEntanglement;
 use calls_turns::answers::Ran;
 use record::reading::Header;
@@ -48,25 +49,35 @@ fn orders(s: &[u8], n: u16) {
     entries(b'R', &order[..most]);
 }
 
-// The letter `E`, D and W.
-fn displaced(d: u32, w: u32) {
+// The letter `E`, D, W and the entanglement in thousandths.
+fn displaced(d: u32, w: u32, k: u32) {
     printing::text(b"E");
     printing::next(d);
     printing::next(w);
+    printing::next(k);
     printing::end();
 }
 
-// The count, D and W. A single leaf has no ratio, and D and W are 0.
+// The entanglement in thousandths, 0 for a single leaf.
+fn thousandths(s: &[u8]) -> u32 {
+    match calls_show::thousandths(s) {
+        InThousandths::Ratio(k) => k,
+        InThousandths::NoRatio => 0,
+        InThousandths::Refused(_refusal) => 0,
+    }
+}
+
+// The count; D, W and the entanglement in thousandths. A single leaf has no ratio, and these three are 0.
 fn measures(s: &[u8]) {
     let counted = calls_show::count(s);
     printing::text(b"X");
     printing::next(counted.count);
     printing::end();
-    let entangled = calls_show::entanglement(s);
-    let SquaredEntanglement::Ratio(d, w, _ratio) = entangled else {
-        return displaced(0, 0);
+    let squared = calls_show::squared_entanglement(s);
+    let SquaredEntanglement::Ratio(d, w, _ratio) = squared else {
+        return displaced(0, 0, 0);
     };
-    displaced(d, w);
+    displaced(d, w, thousandths(s));
 }
 
 // `S` for a run that settled, `U` for one that did not.

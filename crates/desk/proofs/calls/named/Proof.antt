@@ -96,9 +96,13 @@ returns-17 c = at-place 16 _ (sym (c .before .place .ensures) ∙ c .match .keys
 
 returns-18 : tie.Need-returns-18
 unfolding names pieces calls
-returns-18 c =
+returns-18 c = at-place 17 _ (sym (c .before .place .ensures) ∙ c .match .keys18)
+
+returns-19 : tie.Need-returns-19
+unfolding names pieces calls
+returns-19 c =
     let k = c .before .place .result in
-    sym (List·getD-eq-default calls NoCall {n = k} (past k 17 (c .match .rest))) ∙ at-place k _ (sym (c .before .place .ensures))
+    sym (List·getD-eq-default calls NoCall {n = k} (past k 18 (c .match .rest))) ∙ at-place k _ (sym (c .before .place .ensures))
 
 pub named-spec : {M : Type 1} → statement M
 named-spec =
@@ -122,4 +126,5 @@ named-spec =
     returns-15
     returns-16
     returns-17
-    returns-18)
+    returns-18
+    returns-19)

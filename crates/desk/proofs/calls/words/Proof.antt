@@ -58,6 +58,9 @@ enum-told-17 c = search needs
 enum-told-18 : tie.Need-enum-told-18
 enum-told-18 c = search needs
 
+enum-told-19 : tie.Need-enum-told-19
+enum-told-19 c = search needs
+
 returns : tie.Need-returns
 unfolding wordsOf
 returns c = rw (c .enum-told .given .1)
@@ -130,6 +133,10 @@ returns-18 : tie.Need-returns-18
 unfolding wordsOf
 returns-18 c = rw (c .enum-told18 .given .1)
 
+returns-19 : tie.Need-returns-19
+unfolding wordsOf
+returns-19 c = rw (c .enum-told19 .given .1)
+
 pub words-spec : {M : Type 1} → statement M
 words-spec =
     tie.close
@@ -152,6 +159,7 @@ words-spec =
     enum-told-16
     enum-told-17
     enum-told-18
+    enum-told-19
     returns
     returns-2
     returns-3
@@ -169,4 +177,5 @@ words-spec =
     returns-15
     returns-16
     returns-17
-    returns-18)
+    returns-18
+    returns-19)
