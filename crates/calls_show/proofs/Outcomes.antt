@@ -68,7 +68,8 @@ module _ (s : List ℕ) where
   unfolding squaredEntanglement
   squared-told = go (accepted (refusal s)) refl (eqb (sizeOf s) 1) refl
     where
-      go : (b : Bool) → accepted (refusal s) ≡ b → (c : Bool) → eqb (sizeOf s) 1 ≡ c → squaredRefusal (squaredEntanglement s) ≡ toldOf s (refusal s)
+      go : (b : Bool) → accepted (refusal s) ≡ b → (c : Bool) → eqb (sizeOf s) 1 ≡ c →
+          squaredRefusal (squaredEntanglement s) ≡ toldOf s (refusal s)
       go true e true f = rw (e, f) (told-none (parts s) (eqb-true (refusal s) 0 e))
       go true e false f = rw (e, f) (told-none (parts s) (eqb-true (refusal s) 0 e))
       go false e c f = rw e refl
@@ -84,18 +85,19 @@ module _ (s : List ℕ) where
     pub thousandths-none : n ≡ 1 → TellsThousandths s in-thousandths.NoRatio
     thousandths-none h = record { answers = (a, sym e ∙ h) }
 
-    module _ (h : n ≢ 1) {d w : ℕ} (p : d ≡ displacement n (parts s .links) (shownOrder s left) (shownOrder s right)) (q : w ≡ worst n) where
-      two-leaves : 2 ≤ sizeOf s
-      two-leaves = let some = accepted-sized s a .some in let other : sizeOf s ≢ 1 = λ z. h (e ∙ z) in omega (arith, some, other)
+    module _ (h : n ≢ 1) {d w : ℕ} (p : d ≡ displacement n (parts s .links) (shownOrder s left) (shownOrder s right)) (q : w ≡ worst n)
+      where
+        two-leaves : 2 ≤ sizeOf s
+        two-leaves = let some = accepted-sized s a .some in let other : sizeOf s ≢ 1 = λ z. h (e ∙ z) in omega (arith, some, other)
 
-      -- D and W are as the work asks
-      pub thousandths-asked : (0 < w) × (d ≤ w) × (w ≤ 44739072)
-      thousandths-asked =
-          rw (p, q, e)
-          (worst-positive (sizeOf s) two-leaves, displacement-at-most s a, worst-most (sizeOf s) (accepted-sized s a .most))
+        -- D and W are as the work asks
+        pub thousandths-asked : (0 < w) × (d ≤ w) × (w ≤ 44739072)
+        thousandths-asked =
+            rw (p, q, e)
+            (worst-positive (sizeOf s) two-leaves, displacement-at-most s a, worst-most (sizeOf s) (accepted-sized s a .most))
 
-      pub thousandths-ratio : {k : ℕ} → Thousandths d w k → TellsThousandths s (in-thousandths.Ratio k)
-      thousandths-ratio t = record { answers = (a, two-leaves, rw (p, q, e) at t) }
+        pub thousandths-ratio : {k : ℕ} → Thousandths d w k → TellsThousandths s (in-thousandths.Ratio k)
+        thousandths-ratio t = record { answers = (a, two-leaves, rw (p, q, e) at t) }
 
   -- there is one answer only
   pub one-thousandths : (a b : InThousandths) → ThousandthsOf s a → ThousandthsOf s b → a ≡ b

@@ -89,4 +89,11 @@ unfolding order write leaves deep object count place range over across pairs cho
     headingRefusal refusal rowFor isSide holds noAllowance freeRefusal runRefusal squaredEntanglement
     textRead leafNumbers rowsOf keepsGrammar said isNumbered newickReadRefusal sentenceOf textOf writtenText
     namedBy entryFor namesNone rowsIn tableFor any someNone amongEntries twice mergeReadRefusal writtenTable
-examples = record { table = refl; in-thousandths = all-told list.examples refl; texts-read = refl; texts-written = refl; tables-read = refl; tables-written = refl }
+examples = record {
+  table = refl;
+  in-thousandths = all-told list.examples refl;
+  texts-read = refl;
+  texts-written = refl;
+  tables-read = refl;
+  tables-written = refl;
+}

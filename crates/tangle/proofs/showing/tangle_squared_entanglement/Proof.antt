@@ -29,7 +29,8 @@ returns c = let p = c .before in in-case squaredForC (p .before .before .squared
 
 returns-2 : tie.Need-returns-2
 returns-2 c =
-    let p = c .before in in-case squaredForC (p .before .before .squared-entanglement .ensures) (p .enum-told .given .1) (c .no-squared .ensures)
+    let p = c .before in
+    in-case squaredForC (p .before .before .squared-entanglement .ensures) (p .enum-told .given .1) (c .no-squared .ensures)
 
 returns-3 : tie.Need-returns-3
 returns-3 c =
