@@ -1,5 +1,5 @@
 -- `thousandths` meets its contract. The loop's invariant: k is at most 1,000 and not above, and next is the number after it.
-use Prim.Native.Nat.{ℕ, suc, _*_, _-_, _≤_}
+use Prim.Native.Nat.{ℕ, suc, _*_, _-_, _^_, _≤_, _<_}
 use mathlib.Core.Path.{_≡_}
 use native.Mathlib.Nat.{mul-le-mul}
 use native.Mathlib.Omega.{arith}
@@ -13,11 +13,12 @@ Inv-loop d w most worst k₀ next₀ k next = (next ≡ suc k) × (k ≤ 1000) �
 abbrev μ-loop : tie.MeasureT-loop
 μ-loop d w most worst k₀ next₀ k next = 1000 - k
 
-square-most : (x : ℕ) → x ≤ 1001 → x * x ≤ 1002001
-square-most x h = mul-le-mul h h
+-- products of numbers up to 1,001, and of these by W, have 64 bits
+two-fit : (x y : ℕ) → x ≤ 1001 → y ≤ 1001 → x * y < 2 ^ 64
+two-fit x y h i = omega (arith, mul-le-mul h i)
 
-product-most : (x w : ℕ) → x ≤ 1001 → w ≤ 44739072 → x * x * w ≤ 44828594883072
-product-most x w h v = mul-le-mul (square-most x h) v
+three-fit : (x y w : ℕ) → x ≤ 1001 → y ≤ 1001 → w ≤ 44739072 → x * y * w < 2 ^ 64
+three-fit x y w h i v = omega (arith, mul-le-mul (mul-le-mul h i) v)
 
 mul-most : tie.Need-mul-most Inv-loop μ-loop
 mul-most c = omega arith
@@ -26,16 +27,16 @@ loop-holds : tie.Need-loop-holds Inv-loop μ-loop
 loop-holds c = (omega arith, omega arith, omega arith)
 
 mul-loop : tie.Need-mul-loop Inv-loop μ-loop
-mul-loop c = omega (arith, square-most (c .loop .next) (omega arith))
+mul-loop c = record { fits = two-fit _ _ (omega arith) (omega arith) }
 
 mul-loop-2 : tie.Need-mul-loop-2 Inv-loop μ-loop
-mul-loop-2 c = omega (arith, product-most (c .loop .next) (c .before .args .w) (omega arith) (omega arith))
+mul-loop-2 c = record { fits = three-fit _ _ _ (omega arith) (omega arith) (omega arith) }
 
 -- the next number is within, so it is at most 1,000
 next-most : (c : tie.In-loop Inv-loop μ-loop) → c .before .loop .next ≤ 1000
 next-most c =
     let a = c .before .before .args in
-    within-1000 (a .d) (a .w) (omega arith) (omega arith) (c .before .loop .next) (c .loop-test .taken)
+    within-1000 (a .d) (a .w) (omega arith) (omega arith) (c .before .loop .next) (omega (arith, c .loop-test .taken))
 
 add-next : tie.Need-add-next Inv-loop μ-loop
 add-next c = omega arith
@@ -44,7 +45,7 @@ loop-less : tie.Need-loop-less Inv-loop μ-loop
 loop-less c = omega (arith, next-most c)
 
 loop-again : tie.Need-loop-again Inv-loop μ-loop
-loop-again c = (omega arith, next-most c, c .loop-test .taken)
+loop-again c = (omega arith, next-most c, omega (arith, c .loop-test .taken))
 
 cast-result : tie.Need-cast-result Inv-loop μ-loop
 cast-result c = omega arith
