@@ -27,7 +27,8 @@ static uint16_t table_rows[2 * ROWS];
 static struct {
     uint32_t refusal;
     struct tangle_count count, pairs;
-    struct tangle_entanglement entanglement;
+    struct tangle_squared_entanglement squared;
+    struct tangle_thousandths thousandths;
     struct tangle_free freed;
     struct tangle_run ran;
     struct tangle_better better;
@@ -53,9 +54,14 @@ static void pairs(void) {
     found.refusal = found.pairs.refusal;
 }
 
-static void entanglement(void) {
-    found.entanglement = tangle_entanglement(s, BYTES);
-    found.refusal = found.entanglement.refusal;
+static void squared_entanglement(void) {
+    found.squared = tangle_squared_entanglement(s, BYTES);
+    found.refusal = found.squared.refusal;
+}
+
+static void thousandths(void) {
+    found.thousandths = tangle_thousandths(s, BYTES);
+    found.refusal = found.thousandths.refusal;
 }
 
 static void free_left(void) {
@@ -141,7 +147,8 @@ static const struct {
     {"order", order_right, TANGLE_RIGHT},
     {"count", count, 0},
     {"pairs", pairs, 0},
-    {"entanglement", entanglement, 0},
+    {"squared_entanglement", squared_entanglement, 0},
+    {"thousandths", thousandths, 0},
     {"free", free_left, TANGLE_LEFT},
     {"free", free_right, TANGLE_RIGHT},
     {"run", run, 0},
@@ -220,12 +227,19 @@ static int in_signs(uint32_t side) {
     return memcmp(written_table, expected, sizeof expected) == 0;
 }
 
+/* Whether the thousandths found are the root of the ratio found: k fits, and k + 1 does not. */
+static int is_root(void) {
+    uint64_t k = found.thousandths.thousandths, d = found.squared.displacement, w = found.squared.worst;
+    return found.squared.has_ratio == 1 && found.thousandths.has_ratio == 1 && k * k * w <= 1000000 * d &&
+           1000000 * d < (k + 1) * (k + 1) * w;
+}
+
 static int agree(void) {
     uint32_t crossings = found.count.count;
     return found.pairs.count == crossings && found.freed.before == crossings && found.freed.after <= crossings &&
            found.ran.first == crossings && found.ran.last <= crossings && found.ran.settled == 1 &&
-           found.entanglement.has_ratio == 1 && found.better.length == N && found.unpacked.hold == made[5] &&
-           found.unpacked.n == N && memcmp(packed, made, BYTES) == 0;
+           is_root() && found.better.length == N && found.unpacked.hold == made[5] && found.unpacked.n == N &&
+           memcmp(packed, made, BYTES) == 0;
 }
 
 /* A tree, and its order with every layout byte 0: 1 if that is 1 to n, -1 if it is n to 1, 0 for another. */

@@ -1,6 +1,7 @@
 #!/usr/bin/env bash
 # Compares sheet with the peer's sheet: records of all shapes and sizes, each hold, the first or the last row of a side
-# bad, cut short, too long, empty, damaged, and given in pieces. Ends with 1 at the first difference.
+# bad, cut short, too long, empty, damaged, and given in pieces; and both sides of limits of a thousandth. Ends with 1 at
+# the first difference.
 . "$(dirname "$0")/../programs.sh"
 build
 records=0
@@ -45,6 +46,33 @@ for bytes in 0 1 7 8 9 45; do head -c "$bytes" "$file" > "$file.short"; same "$f
 head -c 46 /dev/zero > "$file.zero"; same "$file.zero"
 "$peer" record random 512 1 > "$file"
 { cat "$file" "$file"; } > "$file.long"; same "$file.long"
+
+# Leaves, D, W and the entanglement in thousandths: the four numbers are given here, and must be those printed.
+while read -r n d w k; do
+  "$peer" displaced "$n" "$d" "$n" > "$file"
+  same "$file"
+  grep -qx "E $d $w $k" "$out/sheet.got" || { echo "not E $d $w $k: $file"; exit 1; }
+done <<'END'
+1 0 0 0
+2 0 2 0
+2 2 2 1000
+3 2 8 500
+4 18 20 948
+5 8 40 447
+5 10 40 500
+15 1118 1120 999
+24 3724 4600 899
+24 3726 4600 900
+181 2 1976520 1
+182 2 2009462 0
+449 25816600 30172800 924
+449 25816602 30172800 925
+512 0 44739072 0
+512 44 44739072 0
+512 46 44739072 1
+512 44739070 44739072 999
+512 44739072 44739072 1000
+END
 
 # A pipe gives the input in pieces.
 cp crates/sheet/stdin "$file"

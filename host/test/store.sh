@@ -1,25 +1,28 @@
 #!/usr/bin/env bash
 # Makes the calls that rt runs desk on, and their answers by the peer: crates/desk/stdin and stdout. Of 20,000 calls by
-# seed 7, which begin with both sides of every limit:
-# - of up to 260 bytes the first 7,780, which are all of those and a few at random;
-# - of up to 5,000 bytes the first four hand lists, of 1,024 and of 1,025 entries; seventeen texts read, of lengths and
+# seed 7, which begin with both sides of every limit, each line once:
+# - of up to 260 bytes the first 7,590, which are all of those and a few at random;
+# - of up to 5,000 bytes the first three hand lists, of 1,024 and of 1,025 entries; seventeen texts read, of lengths and
 #   leaf numbers of hundreds of digits and with 511 and 512 groups open; seven written, of 9 to 99 leaves; five merge
-#   tables read over 512 and 513 leaves, refused for their first or last entry or their size; nine checks of 65 leaves
-#   with one link wrong; and one of each other call;
+#   tables read over 512 and 513 leaves, refused for their first or last entry or their size; twelve entanglements in
+#   thousandths, of 15 to 182 leaves, exact squares and the first 0 of a record that is not straight among them; nine
+#   checks of 65 leaves with one link wrong; and one of each other call;
 # - of the longer ones, over 512 leaves, three checks and two packings, a bad row at either end among them; six texts
-#   read, with 511 and 512 groups open and of 512 and 513 leaves; two written, of a deep and of a balanced tree; three
-#   merge tables read and two written, one of each with a place too little room; and the first of each other call.
+#   read, with 511 and 512 groups open and of 512 and 513 leaves; three merge tables read and two written, one of each
+#   with a place too little room; two entanglements in thousandths, the worst, and one of 449 leaves where floats come
+#   out one too low; and the first of each other call.
 # desk reads 1,048,576 bytes; ends with 1 if the calls are longer.
 . "$(dirname "$0")/../tools.sh"
 peer_cargo build
 "$peer" calls 7 20000 | LC_ALL=C awk '
   BEGIN {
-    middle["check"] = 9; middle["hands"] = 4; middle["newick_read"] = 17; middle["newick_write"] = 7
-    middle["merge_read"] = 5
-    long["check"] = 3; long["pack"] = 2; long["newick_read"] = 6; long["newick_write"] = 2
-    long["merge_read"] = 3; long["merge_write"] = 2
+    middle["check"] = 9; middle["hands"] = 3; middle["newick_read"] = 17; middle["newick_write"] = 7
+    middle["merge_read"] = 5; middle["thousandths"] = 12
+    long["check"] = 3; long["pack"] = 2; long["newick_read"] = 6
+    long["merge_read"] = 3; long["merge_write"] = 2; long["thousandths"] = 2
   }
-  length($0) <= 260 { if (++short <= 7780) print; next }
+  seen[$0]++ { next }
+  length($0) <= 260 { if (++short <= 7590) print; next }
   $1 !~ /^[a-z_]+$/ { next }
   length($0) <= 5000 { if (++taken[$1] <= ($1 in middle ? middle[$1] : 1)) print; next }
   ++longer[$1] <= ($1 in long ? long[$1] : 1)' > crates/desk/stdin

@@ -1,4 +1,4 @@
-/* The comparison table's calls for C: all seventeen (crates/tangle, target/staticlib/libtangle.a, which `rt staticlib
+/* The comparison table's calls for C: all eighteen (crates/tangle, target/staticlib/libtangle.a, which `rt staticlib
  * tangle` writes).
  *
  * Memory is lent for the length of a call, as a pointer and how many bytes, places or entries are there; any bytes and
@@ -10,8 +10,8 @@
  * failed, in the order given with the call. The second is the row: beside 7 and 8 the lowest row, 1 to n-1, of the left
  * or the right tree that breaks the tree rule, and 0 beside every other number. A refused call answers zero for every
  * number after these two and changes no byte. One that is not refused changes what is said with the call, and no other
- * byte. docs/CALLS.md explains the words used here, docs/RECORD.md the record's bytes, docs/NEWICK.md the texts, and
- * docs/MERGE.md the merge tables.
+ * byte. docs/CALLS.md explains the words used here, docs/RECORD.md the record's bytes, docs/NEWICK.md the texts,
+ * docs/MERGE.md the merge tables, and docs/ENTANGLEMENT.md the two entanglements.
  *
  * Sides, letters, n and allowances are 32 bits wide, and each is tested as it is: side 257 and side 65,537 are refused,
  * and so is n = 65,540.
@@ -90,13 +90,20 @@ struct tangle_count {
 };
 
 /* Four bytes that no number takes stand before the ratio: it begins at byte 24 of 32. */
-struct tangle_entanglement {
+struct tangle_squared_entanglement {
     uint32_t refusal;
     uint32_t row;
     uint32_t displacement; /* D; 0 for a single leaf */
     uint32_t worst;        /* W; 0 for a single leaf */
     uint32_t has_ratio;    /* 1, or 0 for a single leaf */
     double ratio;          /* D divided by W; 0.0 where there is none */
+};
+
+struct tangle_thousandths {
+    uint32_t refusal;
+    uint32_t row;
+    uint32_t has_ratio;   /* 1, or 0 for a single leaf */
+    uint32_t thousandths; /* at most 1,000; 0 where there is no ratio */
 };
 
 struct tangle_free {
@@ -166,10 +173,19 @@ struct tangle_count tangle_count(const uint8_t *record, size_t length);
  * Refused: 1 to 10. */
 struct tangle_count tangle_pairs(const uint8_t *record, size_t length);
 
-/* How far the two orders are apart: D, the sum over the links of the square of left place less right place, against its
- * worst value W.
+/* How far the two orders are apart: D is the sum over the links of the square of left place less right place, W is the
+ * worst that D can be. The published entanglement (source document 003) is the square root of D divided by W. It is
+ * answered in two ways: squared, as D, W and D/W, and as the root in thousandths, rounded down. docs/ENTANGLEMENT.md
+ * says which of them R's dendextend prints. */
+
+/* D, W and their ratio, the square of the published entanglement: one division of 64-bit floats.
  * Refused: 1 to 10. */
-struct tangle_entanglement tangle_entanglement(const uint8_t *record, size_t length);
+struct tangle_squared_entanglement tangle_squared_entanglement(const uint8_t *record, size_t length);
+
+/* The published entanglement in thousandths: the largest whole k with k*k*W at most 1,000,000*D. It is 1,000 exactly if
+ * D is W. It is 0 if D is 0, and from 182 leaves on also for a D that is small against W.
+ * Refused: 1 to 10. */
+struct tangle_thousandths tangle_thousandths(const uint8_t *record, size_t length);
 
 /* ---- calls that change the lent record */
 

@@ -1,4 +1,4 @@
-/* Checks the seventeen calls for C against docs/CALLS.md, docs/NEWICK.md and docs/MERGE.md: their examples, every
+/* Checks the eighteen calls for C against docs/CALLS.md, docs/NEWICK.md and docs/MERGE.md: their examples, every
  * refusal, in the order of tests, the row beside 7 and 8 and none beside another number, numbers wider than 8 and 16
  * bits, that a refused call changes no byte, and that none writes beyond what it was lent. Numbers are literals, the
  * customer's or worked out by hand. Prints each check that failed; ends with 0 only if none did.
@@ -14,8 +14,15 @@ _Static_assert(sizeof(struct tangle_free) == 16 && offsetof(struct tangle_free, 
 _Static_assert(sizeof(struct tangle_run) == 24 && offsetof(struct tangle_run, row) == 4, "six");
 _Static_assert(sizeof(struct tangle_better) == 16 && offsetof(struct tangle_better, row) == 4, "four");
 _Static_assert(sizeof(struct tangle_unpack) == 16 && offsetof(struct tangle_unpack, row) == 4, "four");
-_Static_assert(sizeof(struct tangle_entanglement) == 32 && offsetof(struct tangle_entanglement, row) == 4, "five");
-_Static_assert(offsetof(struct tangle_entanglement, ratio) == 24, "the double is last, after 4 bytes of padding");
+_Static_assert(sizeof(struct tangle_squared_entanglement) == 32, "five numbers, 4 bytes of padding, and a double");
+_Static_assert(offsetof(struct tangle_squared_entanglement, row) == 4, "the row is second");
+_Static_assert(offsetof(struct tangle_squared_entanglement, displacement) == 8, "D is third");
+_Static_assert(offsetof(struct tangle_squared_entanglement, worst) == 12, "W is fourth");
+_Static_assert(offsetof(struct tangle_squared_entanglement, has_ratio) == 16, "whether there is a ratio is fifth");
+_Static_assert(offsetof(struct tangle_squared_entanglement, ratio) == 24, "the double is last");
+_Static_assert(sizeof(struct tangle_thousandths) == 16 && offsetof(struct tangle_thousandths, row) == 4, "four");
+_Static_assert(offsetof(struct tangle_thousandths, has_ratio) == 8, "whether there is a ratio is third");
+_Static_assert(offsetof(struct tangle_thousandths, thousandths) == 12, "k is last");
 _Static_assert(sizeof(struct tangle_newick_read) == 12 && offsetof(struct tangle_newick_read, row) == 4, "three");
 _Static_assert(sizeof(struct tangle_newick_write) == 12 && offsetof(struct tangle_newick_write, row) == 4, "three");
 _Static_assert(sizeof(struct tangle_entry) == 8 && offsetof(struct tangle_entry, row) == 4, "two numbers of 32 bits");
@@ -284,17 +291,24 @@ static void run(int line, uint32_t allowance, uint32_t refusal, uint32_t first, 
         same_bytes(line, &kept);
 }
 
-static void entanglement(int line, uint32_t refusal, uint32_t d, uint32_t w, uint32_t has_ratio, double ratio)
+/* Both entanglements: D, W and their ratio, and k. Where there is no ratio it is 0.0, and k is 0. */
+static void entanglement(int line, uint32_t refusal, uint32_t d, uint32_t w, uint32_t has_ratio, double ratio,
+                         uint32_t k)
 {
-    struct tangle_entanglement e;
+    struct tangle_squared_entanglement e;
+    struct tangle_thousandths t;
 
     kept = r;
-    e = tangle_entanglement(bytes(), r.length);
+    e = tangle_squared_entanglement(bytes(), r.length);
     told(line, e.refusal, e.row, refusal);
     check(line, "displacement", e.displacement, d);
     check(line, "worst", e.worst, w);
     check(line, "has_ratio", e.has_ratio, has_ratio);
     check(line, "ratio", e.ratio, ratio);
+    t = tangle_thousandths(bytes(), r.length);
+    told(line, t.refusal, t.row, refusal);
+    check(line, "has_ratio of thousandths", t.has_ratio, has_ratio);
+    check(line, "thousandths", t.thousandths, k);
     same_bytes(line, &kept);
 }
 
@@ -492,7 +506,7 @@ static void refused(int line, uint32_t number)
     better(line, TANGLE_LEFT, "4312", "1234", number, 0);
     unpack_refused(line, 513, 0, number);
     count(line, number, 0);
-    entanglement(line, number, 0, 0, 0, 0.0);
+    entanglement(line, number, 0, 0, 0, 0.0, 0);
     free_side(line, TANGLE_LEFT, number, 0, 0);
     run(line, 2, number, 0, 0, 0, 0);
     hands(line, 0, number);
@@ -531,7 +545,7 @@ static void examples_1_to_4(void)
     order(__LINE__, TANGLE_LEFT, 4, 0, "4312");
     order(__LINE__, TANGLE_RIGHT, 4, 0, "1234");
     count(__LINE__, 0, 0);
-    entanglement(__LINE__, 0, 0, 20, 1, 0.0);
+    entanglement(__LINE__, 0, 0, 20, 1, 0.0, 0);
 
     /* 2: own crossings 0, 2 and 3 of 1, 2 and 3 pairs, seen by turning each row over. */
     case2('N');
@@ -551,14 +565,14 @@ static void examples_1_to_4(void)
     layouts(__LINE__, "011000");
     order(__LINE__, TANGLE_LEFT, 4, 0, "1234");
     count(__LINE__, 0, 0);
-    entanglement(__LINE__, 0, 0, 20, 1, 0.0);
+    entanglement(__LINE__, 0, 0, 20, 1, 0.0, 0);
     case2('N');
     run(__LINE__, TANGLE_MOST_TURNS, 0, 5, 0, 2, 1);
     layouts(__LINE__, "011000");
 
     /* 4 */
     case2('N');
-    entanglement(__LINE__, 0, 18, 20, 1, 18.0 / 20.0);
+    entanglement(__LINE__, 0, 18, 20, 1, 18.0 / 20.0, 948);
 }
 
 static void examples_5_6_and_10(void)
@@ -567,7 +581,7 @@ static void examples_5_6_and_10(void)
 
     example5();
     count(__LINE__, 0, 1);
-    entanglement(__LINE__, 0, 2, 8, 1, 0.25); /* 10 */
+    entanglement(__LINE__, 0, 2, 8, 1, 0.25, 500); /* 10 */
     free_side(__LINE__, TANGLE_LEFT, 0, 1, 1);
     layouts(__LINE__, "0000");
     free_side(__LINE__, TANGLE_RIGHT, 0, 1, 1);
@@ -579,7 +593,7 @@ static void examples_5_6_and_10(void)
     hands(__LINE__, 2, 0);
     layouts(__LINE__, "1001");
     count(__LINE__, 0, 0);
-    entanglement(__LINE__, 0, 0, 8, 1, 0.0);
+    entanglement(__LINE__, 0, 0, 8, 1, 0.0, 0);
 
     record('N', 3, left, right, identity);
     free_side(__LINE__, TANGLE_LEFT, 0, 1, 1);
@@ -599,7 +613,7 @@ static void examples_7_to_9(void)
     count(__LINE__, 0, 0);
     order(__LINE__, TANGLE_RIGHT, 1, 0, "1");
     better(__LINE__, TANGLE_LEFT, "1", "1", 0, TANGLE_FIRST);
-    entanglement(__LINE__, 0, 0, 0, 0, 0.0);
+    entanglement(__LINE__, 0, 0, 0, 0, 0.0, 0);
     run(__LINE__, 2, 0, 0, 0, 2, 1);
     run(__LINE__, 1, 0, 0, 0, 1, 0);
     free_side(__LINE__, TANGLE_LEFT, 0, 0, 0);
@@ -608,8 +622,10 @@ static void examples_7_to_9(void)
     /* 8 */
     record('N', 2, pair, pair, crossed);
     count(__LINE__, 0, 1);
+    entanglement(__LINE__, 0, 2, 2, 1, 1.0, 1000);
     free_side(__LINE__, TANGLE_LEFT, 0, 1, 0);
     layouts(__LINE__, "10");
+    entanglement(__LINE__, 0, 0, 2, 1, 0.0, 0);
 
     /* 9 */
     record('N', 3, twice, good, identity);
@@ -642,7 +658,7 @@ static void examples_11_to_13(void)
     layouts(__LINE__, "011000");
     case2('B');
     count(__LINE__, 0, 5);
-    entanglement(__LINE__, 0, 18, 20, 1, 18.0 / 20.0);
+    entanglement(__LINE__, 0, 18, 20, 1, 18.0 / 20.0, 948);
     free_side(__LINE__, TANGLE_LEFT, 11, 0, 0);
     free_side(__LINE__, TANGLE_RIGHT, 11, 0, 0);
     run(__LINE__, 130818, 11, 0, 0, 0, 0);
@@ -661,8 +677,121 @@ static void examples_11_to_13(void)
     /* 13 */
     deep(512, 1);
     count(__LINE__, 0, 130816);
-    entanglement(__LINE__, 0, 44739072, 44739072, 1, 1.0);
+    entanglement(__LINE__, 0, 44739072, 44739072, 1, 1.0, 1000);
     free_side(__LINE__, TANGLE_RIGHT, 0, 130816, 0);
+}
+
+/* ---- both sides of the limits of a thousandth */
+
+/* Where left leaf a's link stands. */
+static uint8_t *link_at(size_t a)
+{
+    return bytes() + 8 * (bytes()[6] * 256u + bytes()[7]) + 2 * (a - 1);
+}
+
+/* Exchanges the right leaves of left leaves a and b. */
+static void exchange(size_t a, size_t b)
+{
+    uint8_t one[2];
+
+    memcpy(one, link_at(a), 2);
+    memcpy(link_at(a), link_at(b), 2);
+    memcpy(link_at(b), one, 2);
+}
+
+/* Reverses the links of leaves side by side, in groups from leaf 1 on, each as large as d allows: m leaves make up
+ * m(m*m-1)/3 of it. That is added to D where the links were the identity, and taken from D where they were reversed. */
+static void displace(uint32_t d)
+{
+    for (size_t from = 1; d != 0;) {
+        uint32_t m = 2;
+
+        while ((m + 1) * ((m + 1) * (m + 1) - 1) / 3 <= d)
+            m++;
+        for (size_t a = from, b = from + m - 1; a < b; a++, b--)
+            exchange(a, b);
+        from += m;
+        d -= m * (m * m - 1) / 3;
+    }
+}
+
+/* Leaves, D, W and k. Of two with the same leaves and D two apart, k mostly is one apart: the second is the least D for
+ * its k. Exact squares, with 1,000,000*D = k*k*W, are those where k is 500, 100, 50, 950, 125, 925, 25 and 875. Over 14
+ * leaves there is no 999, over 181 no 0 but for D = 0. For 449 and 925, 1,000 times the root of D/W in floats is below
+ * 925. Over 24 leaves 1,000,000*D goes beyond 32 bits. */
+static const struct {
+    uint16_t n;
+    uint32_t d, w, k;
+} limits[] = {
+    {2, 0, 2, 0},
+    {2, 2, 2, 1000},
+    {3, 0, 8, 0},
+    {3, 2, 8, 500},
+    {3, 6, 8, 866},
+    {3, 8, 8, 1000},
+    {4, 2, 20, 316},
+    {4, 4, 20, 447},
+    {4, 18, 20, 948},
+    {4, 20, 20, 1000},
+    {5, 8, 40, 447},
+    {5, 10, 40, 500},
+    {5, 36, 40, 948},
+    {5, 38, 40, 974},
+    {8, 40, 168, 487},
+    {8, 42, 168, 500},
+    {14, 908, 910, 998},
+    {14, 910, 910, 1000},
+    {15, 1118, 1120, 999},
+    {15, 1120, 1120, 1000},
+    {24, 44, 4600, 97},
+    {24, 46, 4600, 100},
+    {24, 4294, 4600, 966},
+    {24, 4296, 4600, 966},
+    {24, 4600, 4600, 1000},
+    {49, 96, 39200, 49},
+    {49, 98, 39200, 50},
+    {49, 35376, 39200, 949},
+    {49, 35378, 39200, 950},
+    {63, 1300, 83328, 124},
+    {63, 1302, 83328, 125},
+    {114, 2, 493810, 2},
+    {115, 2, 506920, 1},
+    {181, 2, 1976520, 1},
+    {182, 2, 2009462, 0},
+    {182, 4, 2009462, 1},
+    {449, 25816600, 30172800, 924},
+    {449, 25816602, 30172800, 925},
+    {449, 18856, 30172800, 24},
+    {449, 18858, 30172800, 25},
+    {511, 44477438, 44477440, 999},
+    {511, 44477440, 44477440, 1000},
+    {512, 0, 44739072, 0},
+    {512, 2, 44739072, 0},
+    {512, 44, 44739072, 0},
+    {512, 46, 44739072, 1},
+    {512, 178, 44739072, 1},
+    {512, 180, 44739072, 2},
+    {512, 699046, 44739072, 124},
+    {512, 699048, 44739072, 125},
+    {512, 11184766, 44739072, 499},
+    {512, 11184768, 44739072, 500},
+    {512, 34253350, 44739072, 874},
+    {512, 34253352, 44739072, 875},
+    {512, 44649638, 44739072, 998},
+    {512, 44649640, 44739072, 999},
+    {512, 44739070, 44739072, 999},
+    {512, 44739072, 44739072, 1000},
+};
+
+static void limits_of_thousandths(void)
+{
+    for (size_t i = 0; i < sizeof limits / sizeof *limits; i++) {
+        int reversed = limits[i].d > limits[i].w / 2;
+
+        deep(limits[i].n, reversed);
+        displace(reversed ? limits[i].w - limits[i].d : limits[i].d);
+        entanglement(__LINE__, 0, limits[i].d, limits[i].w, 1, (double)limits[i].d / limits[i].w, limits[i].k);
+    }
 }
 
 /* ---- refusals */
@@ -768,10 +897,8 @@ static void rows_refused(void)
 /* Leaf a's link. */
 static void set_link(size_t a, uint16_t link)
 {
-    size_t n = bytes()[6] * 256u + bytes()[7], at = 8 * n + 2 * (a - 1);
-
-    bytes()[at] = (uint8_t)(link >> 8);
-    bytes()[at + 1] = (uint8_t)(link & 255);
+    link_at(a)[0] = (uint8_t)(link >> 8);
+    link_at(a)[1] = (uint8_t)(link & 255);
 }
 
 /* Each link in turn is 0, n + 1, 65,535 and, where there is one, the next link or the one before. The numbers of leaves
@@ -821,7 +948,8 @@ static void longer_than_16_bits(void)
     check(__LINE__, "pairs' refusal", tangle_pairs(s, sizeof s).refusal, 6);
     check(__LINE__, "freeing's refusal", tangle_free(s, sizeof s, TANGLE_LEFT).refusal, 6);
     check(__LINE__, "a run's refusal", tangle_run(s, sizeof s, 2).refusal, 6);
-    check(__LINE__, "entanglement's refusal", tangle_entanglement(s, sizeof s).refusal, 6);
+    check(__LINE__, "squared entanglement's refusal", tangle_squared_entanglement(s, sizeof s).refusal, 6);
+    check(__LINE__, "thousandths' refusal", tangle_thousandths(s, sizeof s).refusal, 6);
     check(__LINE__, "a hand list's refusal", tangle_hands(s, sizeof s, many, 0).refusal, 6);
     check(__LINE__, "a hand list's refusal", tangle_hands(s, 46, many, 65536).refusal, 17);
     check(__LINE__, "writing's refusal", tangle_newick_write(s, sizeof s, TANGLE_LEFT, text, 14).refusal, 6);
@@ -1519,6 +1647,7 @@ int main(void)
     examples_5_6_and_10();
     examples_7_to_9();
     examples_11_to_13();
+    limits_of_thousandths();
     records_refused();
     rows_refused();
     links_refused();

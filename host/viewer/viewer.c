@@ -87,15 +87,18 @@ static int show_crossings(const struct record *r)
     return 0;
 }
 
+/* Both entanglements: the published one, in thousandths, and its square. */
 static int show_entanglement(const struct record *r)
 {
-    struct tangle_entanglement e = tangle_entanglement(r->bytes, r->length);
+    struct tangle_thousandths t = tangle_thousandths(r->bytes, r->length);
+    struct tangle_squared_entanglement e = tangle_squared_entanglement(r->bytes, r->length);
 
     printf("entanglement: ");
-    if (refused(e.refusal, e.row))
+    if (refused(t.refusal, t.row) || refused(e.refusal, e.row))
         return 1;
-    if (e.has_ratio)
-        printf("%u of %u, ratio %.6f\n", (unsigned)e.displacement, (unsigned)e.worst, e.ratio);
+    if (t.has_ratio && e.has_ratio)
+        printf("%u thousandths; squared %u of %u, ratio %.6f\n", (unsigned)t.thousandths, (unsigned)e.displacement,
+               (unsigned)e.worst, e.ratio);
     else
         printf("no ratio\n");
     return 0;

@@ -2,7 +2,7 @@
 // Used by `cargo test` only.
 
 use crate::crossings;
-use crate::firmware::{self, Entanglement, Run};
+use crate::firmware::{self, Run, SquaredEntanglement};
 use crate::made::{case_2, example, Made};
 use crate::record::{self, Side};
 use crate::refusals::told;
@@ -62,13 +62,15 @@ fn example_3() {
     assert_eq!(record.layout(Side::Left), [0, 1, 1]);
     assert_eq!(order(&bytes, 1, 4), [1, 2, 3, 4]);
     assert_eq!(count(&bytes), 0);
+    assert_eq!(firmware::thousandths(&bytes), Ok(Some(0)));
     assert_eq!(run(&mut case_2().bytes(), MOST_TURNS), (5, 0, 2, true));
 }
 
 #[test]
 fn example_4() {
-    let measure = firmware::entanglement(&case_2().bytes()).unwrap();
-    assert_eq!(measure, Entanglement { d: 18, w: 20, ratio: Some(18.0 / 20.0) });
+    let measure = firmware::squared_entanglement(&case_2().bytes()).unwrap();
+    assert_eq!(measure, SquaredEntanglement { d: 18, w: 20, ratio: Some(18.0 / 20.0) });
+    assert_eq!(firmware::thousandths(&case_2().bytes()), Ok(Some(948)));
 }
 
 #[test]
@@ -107,7 +109,9 @@ fn example_7() {
     let mut bytes = example(&[], &[]).bytes();
     assert_eq!(bytes.len(), 10);
     assert_eq!(count(&bytes), 0);
-    assert_eq!(firmware::entanglement(&bytes).unwrap(), Entanglement { d: 0, w: 0, ratio: None });
+    let measure = firmware::squared_entanglement(&bytes).unwrap();
+    assert_eq!(measure, SquaredEntanglement { d: 0, w: 0, ratio: None });
+    assert_eq!(firmware::thousandths(&bytes), Ok(None));
     assert_eq!(run(&mut bytes, 2), (0, 0, 2, true));
     assert_eq!(run(&mut bytes, 1), (0, 0, 1, false));
 }
@@ -118,7 +122,9 @@ fn example_8() {
     record.links = vec![2, 1];
     let mut bytes = record.bytes();
     assert_eq!(count(&bytes), 1);
+    assert_eq!(firmware::thousandths(&bytes), Ok(Some(1000)));
     assert_eq!(firmware::free(&mut bytes, 1), Ok((1, 0)));
+    assert_eq!(firmware::thousandths(&bytes), Ok(Some(0)));
     assert_eq!(record::read(&bytes).unwrap().layout(Side::Left), [1]);
 }
 
@@ -133,8 +139,9 @@ fn example_9() {
 
 #[test]
 fn example_10() {
-    let measure = firmware::entanglement(&example_5().bytes()).unwrap();
+    let measure = firmware::squared_entanglement(&example_5().bytes()).unwrap();
     assert_eq!((measure.d, measure.w), (2, 8));
+    assert_eq!(firmware::thousandths(&example_5().bytes()), Ok(Some(500)));
 }
 
 #[test]
@@ -161,8 +168,9 @@ fn example_12() {
 #[test]
 fn example_13() {
     assert_eq!(count(&backwards().bytes()), 130_816);
-    let measure = firmware::entanglement(&backwards().bytes()).unwrap();
-    assert_eq!(measure, Entanglement { d: 44_739_072, w: 44_739_072, ratio: Some(1.0) });
+    let measure = firmware::squared_entanglement(&backwards().bytes()).unwrap();
+    assert_eq!(measure, SquaredEntanglement { d: 44_739_072, w: 44_739_072, ratio: Some(1.0) });
+    assert_eq!(firmware::thousandths(&backwards().bytes()), Ok(Some(1000)));
 }
 
 #[test]

@@ -5,6 +5,7 @@
 use std::io::{self, Write};
 
 use crate::crossings;
+use crate::displaced;
 use crate::edges;
 use crate::faults;
 use crate::lines;
@@ -54,7 +55,7 @@ fn any_size(random: &mut Random) -> usize {
 fn any_call(random: &mut Random) -> String {
     let made = made::any_record(any_size(random), random);
     let record = faults::any_bytes(&made, random);
-    match random.below(122) {
+    match random.below(130) {
         0..=4 => lines::plain("check", &record),
         5..=13 => {
             let side = any_side(random);
@@ -62,7 +63,7 @@ fn any_call(random: &mut Random) -> String {
         }
         14..=21 => lines::plain("count", &record),
         22..=27 => lines::plain("pairs", &record),
-        28..=34 => lines::plain("entanglement", &record),
+        28..=34 => lines::plain("squared_entanglement", &record),
         35..=46 => lines::free(&record, any_side(random)),
         47..=58 => lines::run(&record, any_allowance(random)),
         59..=70 => lines::hands(&record, &any_hands(&made, random)),
@@ -74,7 +75,8 @@ fn any_call(random: &mut Random) -> String {
         100..=106 => any_newick_read(&made, random),
         107..=110 => any_newick_write(&made, &record, random),
         111..=117 => any_merge_read(&made, random),
-        _ => any_merge_write(&made, &record, random),
+        118..=121 => any_merge_write(&made, &record, random),
+        _ => any_thousandths(&made, &record, random),
     }
 }
 
@@ -342,6 +344,17 @@ fn any_merge_write(made: &Made, record: &[u8], random: &mut Random) -> String {
     let rubbish = |random: &mut Random| if wide { random.next() as i32 } else { random.below(19) as i32 - 9 };
     let out: Vec<i32> = (0..places).map(|_| rubbish(random)).collect();
     lines::merge_write(record, side, &out)
+}
+
+/// Thousandths of a record as it is, or with the least displacement for some k or the one below that.
+fn any_thousandths(made: &Made, record: &[u8], random: &mut Random) -> String {
+    let n = made.n as usize;
+    if n < 4 || random.chance(500) {
+        return lines::plain("thousandths", record);
+    }
+    let least = displaced::least(n, 1 + random.below(1000) as u64);
+    let made = displaced::displaced(made, random.pick(&[least, least - 2]));
+    lines::plain("thousandths", &faults::any_bytes(&made, random))
 }
 
 #[cfg(test)]

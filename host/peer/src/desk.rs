@@ -16,7 +16,8 @@ pub enum Call {
     Order(Vec<u8>, u16, Vec<u16>),
     Count(Vec<u8>),
     Pairs(Vec<u8>),
-    Entanglement(Vec<u8>),
+    SquaredEntanglement(Vec<u8>),
+    Thousandths(Vec<u8>),
     Free(Vec<u8>, u16),
     Run(Vec<u8>, u32),
     Hands(Vec<u8>, Vec<(u16, u16)>),
@@ -122,7 +123,8 @@ pub fn call(line: &[u8]) -> Option<Call> {
         (b"order", &[a, s, o]) => Call::Order(bytes(a)?, short(s)?, list(o)?),
         (b"count", &[a]) => Call::Count(bytes(a)?),
         (b"pairs", &[a]) => Call::Pairs(bytes(a)?),
-        (b"entanglement", &[a]) => Call::Entanglement(bytes(a)?),
+        (b"squared_entanglement", &[a]) => Call::SquaredEntanglement(bytes(a)?),
+        (b"thousandths", &[a]) => Call::Thousandths(bytes(a)?),
         (b"free", &[a, s]) => Call::Free(bytes(a)?, short(s)?),
         (b"run", &[a, t]) => Call::Run(bytes(a)?, allowance(t)?),
         (b"hands", &[a, h]) => Call::Hands(bytes(a)?, hands(h)?),
@@ -169,14 +171,21 @@ fn order_answer(record: &[u8], side: u16, mut out: Vec<u16>) -> String {
     format!("{} {}", told(&result), commas(&out))
 }
 
-fn entanglement_answer(record: &[u8]) -> String {
-    match firmware::entanglement(record) {
+fn squared_entanglement_answer(record: &[u8]) -> String {
+    match firmware::squared_entanglement(record) {
         Err(refusal) => format!("{refusal} 0 0 none"),
         Ok(measure) => {
             let ratio = measure.ratio.map(|ratio| format!("{:016x}", ratio.to_bits()));
             format!("0 {} {} {}", measure.d, measure.w, ratio.unwrap_or("none".to_string()))
         }
     }
+}
+
+fn thousandths_answer(record: &[u8]) -> String {
+    let result = firmware::thousandths(record);
+    let number = told(&result);
+    let k = result.ok().flatten().map(|k| k.to_string());
+    format!("{number} {}", k.unwrap_or("none".to_string()))
 }
 
 fn free_answer(mut record: Vec<u8>, side: u16) -> String {
@@ -258,7 +267,8 @@ pub fn answer(line: &[u8]) -> String {
         Call::Order(record, side, out) => order_answer(&record, side, out),
         Call::Count(record) => count_answer(firmware::count(&record)),
         Call::Pairs(record) => count_answer(firmware::pairs(&record)),
-        Call::Entanglement(record) => entanglement_answer(&record),
+        Call::SquaredEntanglement(record) => squared_entanglement_answer(&record),
+        Call::Thousandths(record) => thousandths_answer(&record),
         Call::Free(record, side) => free_answer(record, side),
         Call::Run(record, allowance) => run_answer(record, allowance),
         Call::Hands(record, entries) => hands_answer(record, &entries),
@@ -355,7 +365,22 @@ mod tests {
             assert_eq!(answer(line.as_bytes()), "?");
         }
         assert_eq!(answer(b"free - 65535"), "13 0 0 -");
-        assert_eq!(answer(b"entanglement -"), "1 0 0 none");
+        assert_eq!(answer(b"squared_entanglement -"), "1 0 0 none");
+        assert_eq!(answer(b"thousandths -"), "1 none");
+    }
+
+    #[test]
+    fn the_old_word_is_no_call() {
+        let record = hex(&made::case_2().bytes());
+        let answered = |call: &str| answer(call.replace('R', &record).as_bytes());
+        assert_eq!(answered("squared_entanglement R"), "0 18 20 3feccccccccccccd");
+        assert_eq!(answered("thousandths R"), "0 948");
+        for call in ["entanglement R", "entanglement -", "entanglement", "thousandths", "thousandths R R"] {
+            assert_eq!(answered(call), "?");
+        }
+        let one_leaf = hex(&made::example(&[], &[]).bytes());
+        assert_eq!(answer(format!("squared_entanglement {one_leaf}").as_bytes()), "0 0 0 none");
+        assert_eq!(answer(format!("thousandths {one_leaf}").as_bytes()), "0 none");
     }
 
     #[test]
@@ -368,7 +393,8 @@ mod tests {
             ("order R 1 9,9", "7 3 9,9"),
             ("count R", "7 3 0"),
             ("pairs R", "7 3 0"),
-            ("entanglement R", "7 3 0 0 none"),
+            ("squared_entanglement R", "7 3 0 0 none"),
+            ("thousandths R", "7 3 none"),
             ("free R 2", "7 3 0 0 R"),
             ("run R 1", "7 3 0 0 0 0 R"),
             ("hands R 1:1", "7 3 R"),
@@ -391,11 +417,11 @@ mod tests {
     fn words_answered(call: &Call) -> Option<usize> {
         match call {
             Call::Check(..) | Call::BetterCheck(..) => Some(1),
-            Call::Order(..) | Call::Count(..) | Call::Pairs(..) => Some(2),
+            Call::Order(..) | Call::Count(..) | Call::Pairs(..) | Call::Thousandths(..) => Some(2),
             Call::Hands(..) | Call::Hold(..) | Call::Pack(..) => Some(2),
             Call::MergeRead(..) | Call::MergeWrite(..) => Some(2),
             Call::NewickRead(..) | Call::NewickWrite(..) => Some(3),
-            Call::Entanglement(..) | Call::Free(..) => Some(4),
+            Call::SquaredEntanglement(..) | Call::Free(..) => Some(4),
             Call::Run(..) => Some(6),
             Call::Better(..) => None,
             Call::Unpack(..) => Some(8),

@@ -12,6 +12,7 @@ use crate::malformed;
 use crate::merge_edges;
 use crate::newick_edges;
 use crate::random::Random;
+use crate::ratio_edges;
 use crate::spelling;
 
 const SIDES: [u16; 10] = [0, 1, 2, 3, 256, 257, 258, 512, 32769, 65535];
@@ -27,6 +28,7 @@ pub fn all() -> Vec<String> {
     let mut all = examples();
     all.extend(rows_that_break_the_rule());
     all.extend(links_that_are_not_one_to_one());
+    all.extend(ratio_edges::all());
     all.extend(turns_and_sides());
     all.extend(buffers());
     all.extend(hand_lists());
@@ -92,8 +94,8 @@ fn last_row_bad() -> Vec<bad_rows::Bad> {
 /// Every call that takes a record, with arguments that are good for this made record.
 fn calls_on(made: &Made, record: &[u8]) -> Vec<String> {
     let n = made.n as usize;
-    let mut calls: Vec<String> =
-        ["check", "count", "pairs", "entanglement"].map(|word| lines::plain(word, record)).into();
+    let plain = ["check", "count", "pairs", "squared_entanglement", "thousandths"];
+    let mut calls: Vec<String> = plain.map(|word| lines::plain(word, record)).into();
     for side in [1, 2] {
         calls.push(lines::order(record, side, &vec![9; n]));
         calls.push(lines::free(record, side));
@@ -293,15 +295,17 @@ const PROPOSED: [&[u16]; 15] = [
     &[1, 2, 3, 65535, 4],
 ];
 
-/// Proposed orders: compatible, ties, short, longer, with entries that are no leaves.
+/// Proposed orders: compatible, ties, short, longer, with entries that are no leaves. The check tells
+/// whether one of two is bad, not which: there each stands beside a good one, on either side, and beside
+/// itself.
 fn proposed_orders() -> Vec<String> {
     let mut calls = Vec::new();
     let record = case_2().bytes();
+    let good = PROPOSED[0];
     for first in PROPOSED {
-        for second in PROPOSED {
-            for word in ["better", "better_check"] {
-                calls.push(lines::better(word, &record, 1, first, second));
-            }
+        calls.extend(PROPOSED.map(|second| lines::better("better", &record, 1, first, second)));
+        for (one, two) in [(first, good), (good, first), (first, first)] {
+            calls.push(lines::better("better_check", &record, 1, one, two));
         }
         calls.push(lines::better("better", &record, 2, first, &[1, 2, 3, 4]));
         calls.push(lines::better("better", &record, 2, &[4, 3, 2, 1], first));
@@ -511,6 +515,7 @@ fn bad_records() -> Vec<String> {
     }
     for record in faults::several() {
         calls.push(lines::plain("check", &record));
+        calls.push(lines::plain("thousandths", &record));
         calls.push(lines::run(&record, 9));
     }
     for (made, _) in first_row_bad().iter().chain(&last_row_bad()) {

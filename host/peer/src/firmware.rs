@@ -41,22 +41,45 @@ fn count_pairs(record: &Record) -> u32 {
     crossings::pair_by_pair(&crossings::present_places(record))
 }
 
+/// D, the sum over the links of the square of left place less right place, and its worst value W.
+fn displacement(record: &Record) -> (u64, u64) {
+    let square = |link: &crossings::LinkPlaces| (link.left.abs_diff(link.right) as u64).pow(2);
+    let d = crossings::present_places(record).iter().map(square).sum();
+    let n = record.n as u64;
+    (d, n * (n * n - 1) / 3)
+}
+
 #[derive(Debug, PartialEq)]
-pub struct Entanglement {
+pub struct SquaredEntanglement {
     pub d: u64,
     pub w: u64,
     pub ratio: Option<f64>,
 }
 
 /// D, W and D divided by W, which is no ratio for one leaf: 1 to 10, or these.
-pub fn entanglement(bytes: &[u8]) -> Result<Entanglement, Refusal> {
+pub fn squared_entanglement(bytes: &[u8]) -> Result<SquaredEntanglement, Refusal> {
     let record = record::read(bytes)?;
-    let square = |link: &crossings::LinkPlaces| (link.left.abs_diff(link.right) as u64).pow(2);
-    let d = crossings::present_places(&record).iter().map(square).sum();
-    let n = record.n as u64;
-    let w = n * (n * n - 1) / 3;
-    let ratio = if n == 1 { None } else { Some(d as f64 / w as f64) };
-    Ok(Entanglement { d, w, ratio })
+    let (d, w) = displacement(&record);
+    let ratio = if record.n == 1 { None } else { Some(d as f64 / w as f64) };
+    Ok(SquaredEntanglement { d, w, ratio })
+}
+
+/// The entanglement in thousandths, which is no ratio for one leaf: 1 to 10, or this.
+pub fn thousandths(bytes: &[u8]) -> Result<Option<u32>, Refusal> {
+    let record = record::read(bytes)?;
+    let (d, w) = displacement(&record);
+    Ok(if record.n == 1 { None } else { Some(most_thousandths(d, w)) })
+}
+
+/// The largest whole k with k times k times W at most 1,000,000 times D, found by trying 1, 2 and so on;
+/// W is not 0.
+pub fn most_thousandths(d: u64, w: u64) -> u32 {
+    let fits = |k: u32| u128::from(k).pow(2) * u128::from(w) <= 1_000_000 * u128::from(d);
+    let mut k = 0;
+    while fits(k + 1) {
+        k += 1;
+    }
+    k
 }
 
 /// Turns each row of a side, from its present byte, exactly if that makes its own crossings
@@ -183,6 +206,7 @@ pub fn better<'a>(bytes: &[u8], side: u16, first: &'a [u16], second: &'a [u16]) 
 #[cfg(test)]
 mod tests {
     use super::*;
+    use crate::faults;
     use crate::made;
     use crate::random::Random;
 
@@ -194,6 +218,35 @@ mod tests {
             pairs(&laid.bytes()).unwrap()
         });
         counts.min().unwrap()
+    }
+
+    #[test]
+    fn thousandths_are_the_largest_that_fit() {
+        for n in 2..=12 {
+            let w = n * (n * n - 1) / 3;
+            for d in 0..=w {
+                let fitting = (0..=1500).filter(|k| k * k * w <= 1_000_000 * d);
+                assert_eq!(Some(most_thousandths(d, w) as u64), fitting.max());
+            }
+        }
+        let most = 44_739_072;
+        let few = [0, 44, 45, most / 4 - 1, most / 4, most - 1, most];
+        assert_eq!(few.map(|d| most_thousandths(d, most)), [0, 0, 1, 499, 500, 999, 1000]);
+    }
+
+    #[test]
+    fn both_entanglements_read_the_same_record() {
+        let mut random = Random::new(9);
+        for round in 0..400 {
+            let n = if round % 40 == 0 { 512 } else { 1 + random.below(40) };
+            let bytes = faults::any_bytes(&made::any_record(n, &mut random), &mut random);
+            let wanted = check(&bytes).and_then(|()| squared_entanglement(&bytes));
+            let wanted = wanted.map(|measure| measure.ratio.map(|_| most_thousandths(measure.d, measure.w)));
+            assert_eq!(thousandths(&bytes), wanted);
+        }
+        for bytes in faults::single().iter().chain(&faults::several()) {
+            assert_eq!(thousandths(bytes).err(), check(bytes).err());
+        }
     }
 
     #[test]

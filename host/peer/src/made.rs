@@ -159,7 +159,7 @@ fn any_links(made: &Made, random: &mut Random) -> Vec<u16> {
 }
 
 /// The links that join two orders without a crossing.
-fn straight_links(left_order: &[u16], right_order: &[u16]) -> Vec<u16> {
+pub fn straight_links(left_order: &[u16], right_order: &[u16]) -> Vec<u16> {
     let mut links = vec![0; left_order.len()];
     for (&left, &right) in left_order.iter().zip(right_order) {
         links[left as usize - 1] = right;

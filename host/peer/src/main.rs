@@ -4,6 +4,7 @@
 //   peer calls SEED COUNT      writes so many lines of calls
 //   peer sheet                 what `sheet` prints for the record on standard input
 //   peer record SHAPE N SEED   one good record; SHAPE is balanced, caterpillar, random or straight
+//   peer displaced N D SEED    one good record whose displacement is D
 //   peer speed CALL            nanoseconds per call; CALL is check, count, free or run
 
 mod bad_links;
@@ -13,6 +14,7 @@ mod bench;
 mod calls;
 mod crossings;
 mod desk;
+mod displaced;
 mod edges;
 mod faults;
 mod firmware;
@@ -25,6 +27,7 @@ mod newick;
 mod newick_edges;
 mod quick;
 mod random;
+mod ratio_edges;
 mod record;
 mod refusals;
 mod room;
@@ -42,7 +45,8 @@ use std::process::ExitCode;
 use random::Random;
 
 const USAGE: &str =
-    "usage: peer answers | calls SEED COUNT | sheet | record SHAPE N SEED | speed check|count|free|run";
+    "usage: peer answers | calls SEED COUNT | sheet | record SHAPE N SEED | displaced N D SEED | \
+    speed check|count|free|run";
 
 fn read_at_most(bytes: u64) -> io::Result<Vec<u8>> {
     let mut input = Vec::new();
@@ -62,15 +66,27 @@ fn number(word: &str) -> io::Result<u64> {
     word.parse().map_err(io::Error::other)
 }
 
-fn one_record(shape: &str, n: &str, seed: &str, out: &mut impl Write) -> io::Result<()> {
-    let n = number(n)? as usize;
-    if !(1..=512).contains(&n) {
-        return Err(io::Error::other("n is 1 to 512"));
+fn leaves(word: &str) -> io::Result<usize> {
+    match number(word)? {
+        n @ 1..=512 => Ok(n as usize),
+        _ => Err(io::Error::other("n is 1 to 512")),
     }
-    match made::of_shape(shape, n, &mut Random::new(number(seed)?)) {
+}
+
+fn one_record(shape: &str, n: &str, seed: &str, out: &mut impl Write) -> io::Result<()> {
+    match made::of_shape(shape, leaves(n)?, &mut Random::new(number(seed)?)) {
         Some(record) => out.write_all(&record.bytes()),
         None => Err(io::Error::other(USAGE)),
     }
+}
+
+fn displaced_record(n: &str, d: &str, seed: &str, out: &mut impl Write) -> io::Result<()> {
+    let (n, d) = (leaves(n)?, number(d)?);
+    if !displaced::occurs(n, d) {
+        return Err(io::Error::other("no links have this displacement"));
+    }
+    let made = made::any_record(n, &mut Random::new(number(seed)?));
+    out.write_all(&displaced::displaced(&made, d).bytes())
 }
 
 fn speed(call: &str, out: &mut impl Write) -> io::Result<()> {
@@ -86,6 +102,7 @@ fn command(words: &[&str], out: &mut impl Write) -> io::Result<()> {
         ["calls", seed, count] => calls::write(number(seed)?, number(count)?, out)?,
         ["sheet"] => write!(out, "{}", sheet::sheet(read_at_most(sheet::ENOUGH)?))?,
         ["record", shape, n, seed] => one_record(shape, n, seed, out)?,
+        ["displaced", n, d, seed] => displaced_record(n, d, seed, out)?,
         ["speed", call] => speed(call, out)?,
         _ => return Err(io::Error::other(USAGE)),
     }

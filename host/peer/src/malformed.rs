@@ -7,7 +7,7 @@ use crate::random::Random;
 const AROUND: &str = "\
     Check R|CHECK R|chec R|checks R|check  R| check R|check R |check R\r|check\tR|check R -|check -R|\
     check R-|check 0xR|check R,R|check Rg0|check R0|check R0G|check --|check RA0|check R4E|check R:|\
-    count|count R R|pairs  R|entanglement R 0|check R\0|order R 1|order R 1 |order R 1 1,2,3,|\
+    count|count R R|pairs  R|check R\0|order R 1|order R 1 |order R 1 1,2,3,|\
     order R 1 ,1,2,3|order R 1 1,,2|order R 1 1, 2|order R -1 0|order R +1 0|order R 1 0;0|\
     order R 65536 0,0,0,0|order R 1 0,0,0,65536|order R 1 -,-|order R - 0,0,0,0|order R 1 0,0,0,-|\
     order R 1 0,0,0,0 0|order R 1.0 0,0,0,0|order R 0x1 0,0,0,0|order R 1 --|free R|free R 65537|\
@@ -52,7 +52,14 @@ const AROUND: &str = "\
     merge_write R 1 0,-|merge_write R 1 +1|merge_write R 1 0,2147483648|merge_write R 1 -2147483649|\
     merge_write R 1 123456789012345678901234567890|merge_write R 65536 0|merge_write R 65537 0,0,0,0,0,0|\
     merge_write R -1 0|merge_write R - 0|merge_write R,R 1 0|merge_write R0 1 0|merge_write 1 R 0|\
-    merge_write R 1a 0|merge_writes R 1 0|merge_write - 65536 -|merge_write 00 3 2147483648";
+    merge_write R 1a 0|merge_writes R 1 0|merge_write - 65536 -|merge_write 00 3 2147483648|\
+    entanglement|entanglement R|entanglement -|entanglement R 0|squared_entanglement|squared_entanglement |\
+    squared_entanglement R R|squared_entanglement R 0|squared_entanglement  R|squared_entanglement R0|\
+    squared_entanglements R|squared_entanglemen R|squared_entangle R|squared-entanglement R|squared entanglement R|\
+    squaredentanglement R|Squared_entanglement R|squared R|_entanglement R|thousandths|thousandths |thousandths R R|\
+    thousandths R 0|thousandths R -|thousandths  R| thousandths R|thousandths R |thousandths R0|thousandths R,R|\
+    thousandths -R|thousandths R\r|Thousandths R|thousandth R|thousandthss R|thousands R|thousandths_ R|\
+    entanglement_thousandths R|thousandths_entanglement R|thousandths 0|thousandths --";
 
 /// Fixed lines around one good record (its hexadecimal digits).
 pub fn fixed(record: &str) -> Vec<String> {

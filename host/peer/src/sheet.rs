@@ -1,5 +1,6 @@
 // What the program `sheet` prints for one record read from standard input: its first line, the
-// orders, the count, D and W; then the run with the whole allowance and the orders afterwards.
+// orders, the count, D, W and the entanglement in thousandths, 0 for one leaf; then the run with
+// the whole allowance and the orders afterwards.
 // A bad record prints only its refusal, with the row after a 7 or an 8; a held one its first five
 // lines and then REFUSED 11.
 
@@ -27,9 +28,10 @@ fn orders(record: &Record) -> String {
 fn first_lines(bytes: &[u8]) -> Result<String, Refusal> {
     let record = record::read(bytes)?;
     let count = firmware::count(bytes)?;
-    let measure = firmware::entanglement(bytes)?;
+    let measure = firmware::squared_entanglement(bytes)?;
+    let k = firmware::thousandths(bytes)?.unwrap_or(0);
     let head = format!("TGP 1 {} {}\n", record.hold as char, record.n);
-    let numbers = format!("X {count}\nE {} {}\n", measure.d, measure.w);
+    let numbers = format!("X {count}\nE {} {} {k}\n", measure.d, measure.w);
     Ok(head + &orders(&record) + &numbers)
 }
 
@@ -53,10 +55,11 @@ pub fn sheet(mut bytes: Vec<u8>) -> String {
 #[cfg(test)]
 mod tests {
     use super::*;
+    use crate::displaced::displaced;
     use crate::made;
 
-    const CASE_2: &str = "TGP 1 N 4\nL 4 3 1 2\nR 1 2 3 4\nX 5\nE 18 20\nT 2 S 0\nL 1 2 3 4\nR 1 2 3 4\n";
-    const ONE_LEAF: &str = "TGP 1 N 1\nL 1\nR 1\nX 0\nE 0 0\nT 2 S 0\nL 1\nR 1\n";
+    const CASE_2: &str = "TGP 1 N 4\nL 4 3 1 2\nR 1 2 3 4\nX 5\nE 18 20 948\nT 2 S 0\nL 1 2 3 4\nR 1 2 3 4\n";
+    const ONE_LEAF: &str = "TGP 1 N 1\nL 1\nR 1\nX 0\nE 0 0 0\nT 2 S 0\nL 1\nR 1\n";
 
     #[test]
     fn case_2_is_printed_exactly() {
@@ -69,11 +72,21 @@ mod tests {
     }
 
     #[test]
+    fn the_third_number_of_the_fifth_line() {
+        let pair = made::example(&[1, 2], &[1, 2]);
+        for (d, wanted) in [(0, "E 0 2 0"), (2, "E 2 2 1000")] {
+            let text = sheet(displaced(&pair, d).bytes());
+            assert_eq!(text.lines().nth(4), Some(wanted));
+        }
+    }
+
+    #[test]
     fn held_and_bad_records() {
         let mut record = made::case_2();
         for hold in [b'L', b'R', b'B'] {
             record.hold = hold;
-            let wanted = format!("TGP 1 {} 4\nL 4 3 1 2\nR 1 2 3 4\nX 5\nE 18 20\nREFUSED 11\n", hold as char);
+            let wanted =
+                format!("TGP 1 {} 4\nL 4 3 1 2\nR 1 2 3 4\nX 5\nE 18 20 948\nREFUSED 11\n", hold as char);
             assert_eq!(sheet(record.bytes()), wanted);
         }
         record.links[0] = 2;
