@@ -715,10 +715,10 @@ static void displace(uint32_t d)
     }
 }
 
-/* Leaves, D, W and k. Of two with the same leaves and D two apart, k mostly is one apart: the second is the least D for
- * its k. Exact squares, with 1,000,000*D = k*k*W, are those where k is 500, 100, 50, 950, 125, 925, 25 and 875. Over 14
- * leaves there is no 999, over 181 no 0 but for D = 0. For 449 and 925, 1,000 times the root of D/W in floats is below
- * 925. Over 24 leaves 1,000,000*D goes beyond 32 bits. */
+/* Leaves, D, W and k. At an exact square, 1,000,000*D = k*k*W, k is reached, and with D two lower it is not: over 8
+ * leaves for 500, over 24 for 100, over 49 for 50 and 950, over 63 for 125, over 449 for 25 and 925, over 512 for 125,
+ * 500 and 875. For 449 and 925, 1,000 times the root of D/W in floats is below 925. Over 24 leaves 1,000,000*D goes
+ * beyond 32 bits. 15 leaves are the fewest with a 999, and 182 the fewest with a 0 where D is not 0. */
 static const struct {
     uint16_t n;
     uint32_t d, w, k;
