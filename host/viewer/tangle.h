@@ -174,9 +174,9 @@ struct tangle_count tangle_count(const uint8_t *record, size_t length);
 struct tangle_count tangle_pairs(const uint8_t *record, size_t length);
 
 /* How far the two orders are apart: D is the sum over the links of the square of left place less right place, W is the
- * worst that D can be. The published entanglement (source document 003) is the square root of D divided by W. It is
- * answered in two ways: squared, as D, W and D/W, and as the root in thousandths, rounded down. docs/ENTANGLEMENT.md
- * says which of them R's dendextend prints. */
+ * worst that D can be. The published entanglement is the square root of D divided by W. It is answered in two ways:
+ * squared, as D, W and D/W, and as the root in thousandths, rounded down. docs/ENTANGLEMENT.md says which of them R's
+ * dendextend prints. */
 
 /* D, W and their ratio, the square of the published entanglement: one division of 64-bit floats.
  * Refused: 1 to 10. */
