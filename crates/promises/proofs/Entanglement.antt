@@ -1,6 +1,6 @@
 -- What an accepted entanglement says, squared and in thousandths, from their statements; whole numbers up to 2^53 are 64-bit floats without
 -- loss.
-use Prim.Native.Nat.{ℕ, _^_, _≤_, _<_}
+use Prim.Native.Nat.{ℕ, _≤_, _<_}
 use mathlib.Core.Path.{_≡_, refl, sym, ap, _∙_, subst}
 use mathlib.Core.Logic.{_≢_}
 use mathlib.Core.Bool.{Bool, true, false}

@@ -6,12 +6,9 @@ use mathlib.Core.List.{List, [], _∷_, map}
 use mathlib.Core.Option.{Option, some, none}
 use lib.Dec.{eqb}
 use lib.ListN.{getD}
-use Rattle.tanglegram.specs.Lists.{place, range}
-use Rattle.tanglegram.specs.Tree.{Tree, leaves, object, tree}
-use Rattle.tanglegram.specs.Order.{order}
-use Rattle.tanglegram.specs.Crossings.{over, pairs, count}
-use Rattle.tanglegram.specs.Freeing.{freed}
-use Rattle.tanglegram.specs.Run.{Side, left, right, go, run, after}
+use Rattle.tanglegram.specs.Lists.{range}
+use Rattle.tanglegram.specs.Tree.{Tree, object, tree}
+use Rattle.tanglegram.specs.Run.{Side, left, right, run, after}
 use Rattle.tanglegram.specs.Table.{Table, Layouts, pick, linked, crossedPairs, orderOf, crossings, free}
 use Rattle.tanglegram.specs.Entanglement.{displacement, worst}
 
