@@ -1,6 +1,7 @@
 // The sheet of one record: reads it from standard input, shows it as it stands, runs it with the largest allowance and
 // shows it afterwards. A bad record prints only `REFUSED` and its refusal, a held one its first five lines and
 // `REFUSED 11`.
+ghost use Rattle.sheet.specs.Measures.{ThirdNumber};
 use calls_show::answers::InThousandths;
 use calls_show::answers::SquaredEntanglement;
 use calls_turns::answers::Ran;
@@ -59,8 +60,11 @@ fn displaced(d: u32, w: u32, k: u32) {
 }
 
 // The entanglement in thousandths, 0 for a single leaf.
-fn thousandths(s: &[u8]) -> u32 {
-    match calls_show::thousandths(s) {
+fn thousandths(s: &[u8]) -> u32
+    ensures { λ r. ⌜ ThirdNumber (now (s .entry)) r ⌝ }
+{
+    let entangled = calls_show::thousandths(s);
+    match entangled {
         InThousandths::Ratio(k) => k,
         InThousandths::NoRatio => 0,
         InThousandths::Refused(_refusal) => 0,
