@@ -3,8 +3,7 @@
 ghost use mathlib.Core.List.{[], _∷_, map};
 ghost use mathlib.Core.Path.{_≡_};
 ghost use Prim.Native.Nat.{_<_, _≤_};
-ghost use lib.ListN.{length};
-ghost use Rattle.record_fields.specs.Fields.{holdOf, sizeOf};
+ghost use Rattle.record_fields.specs.Fields.{sizeOf};
 ghost use Rattle.record_fields.specs.Meaning.{layoutsOf, relaid};
 ghost use Rattle.record_fields.specs.Refusals.{orElse};
 ghost use Rattle.calls_hands.specs.Calls.{handed, Hands};
@@ -15,7 +14,6 @@ use calls_hands::hand_number;
 use calls_hands::list_number;
 use calls_hands::turn_hand;
 use record::told;
-use record_fields::fields::hold_of;
 use record_fields::fields::size_of;
 use record_fields::refusal::Refusal;
 use record_fields::refusal::refused;
@@ -37,15 +35,15 @@ fn narrowed(x: u32) -> u16
     x as u16
 }
 
-// The refusal found so far, or that of one more entry.
+// The refusal found so far, or that of one more entry for an accepted record.
 fn next_number(s: &[u8], k: u16, side: u32, row: u32) -> u16
-    requires { ⌜ 8 ≤ length (now s) ⌝ }
-    ensures { λ r. ⌜ r ≡ orElse k (handRefusal (holdOf (now (s .entry))) (sizeOf (now (s .entry))) (hand side row)) ⌝ }
+    requires { ⌜ RecordOver (now s) (sizeOf (now s)) ⌝ }
+    ensures { λ r. ⌜ r ≡ orElse k (handRefusal (now (s .entry)) (hand side row)) ⌝ }
 {
     if k != 0 {
         return k;
     }
-    hand_number(hold_of(s), size_of(s), narrowed(side), narrowed(row))
+    hand_number(s, size_of(s), narrowed(side), narrowed(row))
 }
 
 // Turns one row of an accepted record over.

@@ -1,25 +1,25 @@
 -- What a hand list does, for the promises: an empty one is refused only with its record, an entry twice comes back to where it
--- was, and a held side's bytes stay.
-use Prim.Native.Nat.{ℕ, zero, suc, pred, _≤_}
+-- was, and a held side's bytes stay, and a pinned row's.
+use Prim.Native.Nat.{ℕ, pred, _≤_}
 use mathlib.Core.Path.{_≡_, refl, sym, ap, _∙_}
-use mathlib.Core.Bool.{Bool, true, false, false≢true}
+use mathlib.Core.Bool.{Bool, true, false, true≢false, false≢true}
 use mathlib.Core.List.{List, [], _∷_}
-use native.Mathlib.Omega.{arith}
 use borrow.Author.Tests.{ltb-true, ltb-false}
 use lib.Dec.{ltb}
 use lib.ListN.{length, getD, set}
-use lib.Seq.{getD-set-same, set-getD, set-out, set-set}
-use Rattle.tanglegram.specs.Order.{flip, byte, turnRow}
+use lib.Seq.{getD-set-same, getD-set-other, set-getD, set-out, set-set}
+use Rattle.tanglegram.specs.Order.{flip, byte, turnRow, mayChange}
 use Rattle.tanglegram.specs.Run.{Side, left, right}
 use Rattle.tanglegram.specs.Table.{Layouts, layout, put}
-use Rattle.tanglegram.proofs.Lists.{each-getD}
-use Rattle.record_fields.specs.Fields.{holdOf, sizeOf, parts}
-use Rattle.record_fields.specs.Refusals.{isLayout, refusal}
+use Rattle.tanglegram.proofs.Bytes.{flip-twice}
+use Rattle.record_fields.specs.Fields.{holdOf}
+use Rattle.record_fields.specs.Refusals.{refusal}
 use Rattle.record_fields.specs.Meaning.{layoutsOf, relaid}
-use Rattle.record_fields.proofs.Acceptance.{accepted-parts, accepted-sized, none-both}
+use Rattle.record_fields.proofs.Acceptance.{accepted-sized, none-both}
 use Rattle.record_fields.proofs.Meaning.{relaid-same}
-use Rattle.record_fields.proofs.Tests.{layout-small}
 use Rattle.record_arrays.specs.Sides.{holds, sideOf}
+use Rattle.record_arrays.specs.Rows.{rowByte}
+use Rattle.record_arrays.proofs.OneRow.{row-small}
 use Rattle.calls_hands.specs.Refusals.{Hand, handRefusal, entriesRefusal, handsRefusal}
 use Rattle.calls_hands.specs.Calls.{handed}
 use Rattle.calls_hands.proofs.HandLists.{nothing-after, hand-good, handing-accepted}
@@ -36,12 +36,7 @@ none-handed s a = relaid-same s (accepted-sized s a)
 
 -- ---- an entry twice
 
-flip-twice : (x : ℕ) → x ≤ 1 → flip (flip x) ≡ x
-flip-twice zero h = refl
-flip-twice (suc zero) h = refl
-flip-twice (suc (suc x)) h = absurd (omega arith)
-
-pub turn-twice : (lay : List ℕ) (row : ℕ) → byte lay row ≤ 1 → turnRow (turnRow lay row) row ≡ lay
+pub turn-twice : (lay : List ℕ) (row : ℕ) → byte lay row ≤ 3 → turnRow (turnRow lay row) row ≡ lay
 turn-twice lay row small = by (ltb (pred row) (length lay)) refl
   where
     by : (b : Bool) → ltb (pred row) (length lay) ≡ b → turnRow (turnRow lay row) row ≡ lay
@@ -57,52 +52,71 @@ turn-twice lay row small = by (ltb (pred row) (length lay)) refl
         let out = ltb-false k (length lay) e in
         ap (λ l. turnRow l row) (set-out lay k (flip (getD lay k 0)) out) ∙ set-out lay k (flip (getD lay k 0)) out
 
-put-twice : (x : Side) (at : Layouts) (row : ℕ) → byte (layout at x) row ≤ 1 → let once = put x (turnRow (layout at x) row) at in
+put-twice : (x : Side) (at : Layouts) (row : ℕ) → byte (layout at x) row ≤ 3 → let once = put x (turnRow (layout at x) row) at in
     put x (turnRow (layout once x) row) once ≡ at
 put-twice left at row small = ap (λ lay. put left lay at) (turn-twice (at .left-bytes) row small)
 put-twice right at row small = ap (λ lay. put right lay at) (turn-twice (at .right-bytes) row small)
 
 -- two equal entries, one after the other, leave layouts of good bytes to the entries after them as they were
-pub twice-handed : (at : Layouts) (h : Hand) (hs : List Hand) → byte (layout at (sideOf (h .side))) (h .row) ≤ 1 →
+pub twice-handed : (at : Layouts) (h : Hand) (hs : List Hand) → byte (layout at (sideOf (h .side))) (h .row) ≤ 3 →
     handed at (h ∷ h ∷ hs) ≡ handed at hs
 unfolding handed
 twice-handed at h hs small = ap (λ l. handed l hs) (put-twice (sideOf (h .side)) at (h .row) small)
 
--- an accepted record's bytes are good
-pub byte-small : (s : List ℕ) → refusal s ≡ 0 → (side : Side) (row : ℕ) → byte (layout (layoutsOf s) side) row ≤ 1
-byte-small s a side row = by side
-  where
-    good : (lay : List ℕ) → isLayout lay ≡ true → byte lay row ≤ 1
-    good lay e = each-getD (λ x. x ≤ 1) lay (omega arith) (layout-small lay e) (pred row)
-
-    by : (x : Side) → byte (layout (layoutsOf s) x) row ≤ 1
-    by left = good (parts s .left-layout) (accepted-parts s a .left-bytes)
-    by right = good (parts s .right-layout) (accepted-parts s a .right-bytes)
-
 pub twice-as-before : (s : List ℕ) (h : Hand) → refusal s ≡ 0 → relaid s (handed (layoutsOf s) (h ∷ h ∷ [])) ≡ s
 twice-as-before s h a =
-    ap (relaid s) (twice-handed (layoutsOf s) h [] (byte-small s a (sideOf (h .side)) (h .row))) ∙ none-handed s a
+    ap (relaid s) (twice-handed (layoutsOf s) h [] (row-small s a (sideOf (h .side)) (h .row))) ∙ none-handed s a
 
--- ---- a held side
+-- ---- a held side, and a pinned row
 
-module _ (hold n : ℕ) (side : Side) (held : holds hold side ≡ true) where
-  put-elsewhere : (x : Side) (lay : List ℕ) (at : Layouts) → holds hold x ≡ false → layout (put x lay at) side ≡ layout at side
-  put-elsewhere x lay at free = by x side free held
-    where
-      by : (x y : Side) → holds hold x ≡ false → holds hold y ≡ true → layout (put x lay at) y ≡ layout at y
-      by left left e f = absurd (false≢true (sym e ∙ f))
-      by left right e f = refl
-      by right left e f = refl
-      by right right e f = absurd (false≢true (sym e ∙ f))
+-- two sides are the same or not
+put-side : (x y : Side) (lay : List ℕ) (at : Layouts) → (x ≡ y → ⊥) → layout (put x lay at) y ≡ layout at y
+put-side left left lay at ne = absurd (ne refl)
+put-side left right lay at ne = refl
+put-side right left lay at ne = refl
+put-side right right lay at ne = absurd (ne refl)
 
-  kept : (hands : List Hand) (at : Layouts) → entriesRefusal hold n hands ≡ 0 → layout (handed at hands) side ≡ layout at side
+-- entries are tested on the record as found; none of them is bad
+module _ (s : List ℕ) where
+  -- a held side's bytes are as they were
+  held : (hands : List Hand) (at : Layouts) (side : Side) → holds (holdOf s) side ≡ true → entriesRefusal s hands ≡ 0 →
+      layout (handed at hands) side ≡ layout at side
   unfolding handed entriesRefusal
-  kept [] at e = refl
-  kept (h ∷ hs) at e =
-      let b = none-both (handRefusal hold n h) (entriesRefusal hold n hs) e in
-      kept hs _ (b .1) ∙ put-elsewhere (sideOf (h .side)) _ at (hand-good hold n h (b .0) .free)
+  held [] at side h e = refl
+  held (k ∷ ks) at side h e =
+      let b = none-both (handRefusal s k) (entriesRefusal s ks) e in
+      let free = hand-good s k (b .0) .free in
+      held ks _ side h (b .1)
+      ∙ put-side (sideOf (k .side)) side _ at (λ q. false≢true (sym free ∙ ap (holds (holdOf s)) q ∙ h))
 
--- a held side's bytes are as they were
-pub held-kept : (s : List ℕ) (hands : List Hand) (side : Side) → handsRefusal s hands ≡ 0 → holds (holdOf s) side ≡ true →
-    layout (handed (layoutsOf s) hands) side ≡ layout (layoutsOf s) side
-held-kept s hands side a held = kept (holdOf s) (sizeOf s) side held hands (layoutsOf s) (handing-accepted s hands a .2)
+  -- and so is a pinned row's byte, rows being numbered from 1
+  pinned : (hands : List Hand) (at : Layouts) (side : Side) (row : ℕ) → mayChange (rowByte s side row) ≡ false →
+      entriesRefusal s hands ≡ 0 → byte (layout (handed at hands) side) row ≡ byte (layout at side) row
+  unfolding handed entriesRefusal
+  pinned [] at side row h e = refl
+  pinned (k ∷ ks) at side row h e =
+      let b = none-both (handRefusal s k) (entriesRefusal s ks) e in
+      let good = hand-good s k (b .0) in
+      pinned ks _ side row h (b .1) ∙ go (sideOf (k .side)) side (good .not-pinned) h
+    where
+      same-byte : (x : Side) → mayChange (rowByte s x (k .row)) ≡ true → mayChange (rowByte s x row) ≡ false →
+          byte (turnRow (layout at x) (k .row)) row ≡ byte (layout at x) row
+      same-byte x p q =
+          getD-set-other (layout at x) (pred (k .row)) (pred row) _ 0
+          (λ c. true≢false (sym p ∙ ap (λ i. mayChange (getD (layout (layoutsOf s) x) i 0)) (sym c) ∙ q))
+
+      go : (x y : Side) → mayChange (rowByte s x (k .row)) ≡ true → mayChange (rowByte s y row) ≡ false →
+          byte (layout (put x (turnRow (layout at x) (k .row)) at) y) row ≡ byte (layout at y) row
+      go left left p q = same-byte left p q
+      go left right p q = refl
+      go right left p q = refl
+      go right right p q = same-byte right p q
+
+-- of a list that is accepted
+module _ (s : List ℕ) (hands : List Hand) (a : handsRefusal s hands ≡ 0) (side : Side) where
+  pub held-kept : holds (holdOf s) side ≡ true → layout (handed (layoutsOf s) hands) side ≡ layout (layoutsOf s) side
+  held-kept h = held s hands (layoutsOf s) side h (handing-accepted s hands a .2)
+
+  pub pinned-kept : (row : ℕ) → mayChange (rowByte s side row) ≡ false →
+      byte (layout (handed (layoutsOf s) hands) side) row ≡ rowByte s side row
+  pinned-kept row h = pinned s hands (layoutsOf s) side row h (handing-accepted s hands a .2)

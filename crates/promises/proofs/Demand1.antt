@@ -5,7 +5,9 @@ use Rattle.promises.proofs.Tests.{tests}
 use Rattle.promises.proofs.RefusedCalls.{refused-calls}
 use Rattle.promises.proofs.RowTold.{row-told}
 use Rattle.promises.proofs.HeldStays.{held-stays}
+use Rattle.promises.proofs.PinnedStays.{pinned-stays}
 use Rattle.promises.proofs.SetHoldOnly.{set-hold-only}
+use Rattle.promises.proofs.PinOnly.{pin-only}
 
 pub demand1 : Demand1
 demand1 = record {
@@ -14,5 +16,7 @@ demand1 = record {
   refused-keeps = refused-calls;
   row-told = row-told;
   held-never-moved = held-stays;
+  pinned-stays = pinned-stays;
   hold-set-only = set-hold-only;
+  pin-only = pin-only;
 }

@@ -7,10 +7,11 @@ use borrow.Author.Tests.{eq-eqb, eqb-true}
 use lib.Dec.{eqb}
 use Rattle.record_fields.specs.Meaning.{layoutsOf, relaid}
 use Rattle.record_arrays.specs.Sides.{sideOf}
+use Rattle.record_arrays.proofs.OneRow.{row-small}
 use Rattle.calls_hands.specs.Refusals.{Hand, handsRefusal}
 use Rattle.calls_hands.specs.Calls.{handed}
 use Rattle.calls_hands.proofs.HandLists.{handing-accepted}
-use Rattle.calls_hands.proofs.Handed.{twice-handed, byte-small, twice-as-before}
+use Rattle.calls_hands.proofs.Handed.{twice-handed, twice-as-before}
 use Rattle.promises.specs.HandsTwice as HandsTwice
 
 alone : (s : List ℕ) (h : Hand) (s′ : List ℕ) (b : Bool) → eqb (handsRefusal s (h ∷ h ∷ [])) 0 ≡ b →
@@ -26,5 +27,5 @@ hands-twice = record {
       let e : handsRefusal s (h ∷ h ∷ hands) ≡ 0 = sym (ap (λ a. a .number) (o .answers)) ∙ z in
       let a = handing-accepted s (h ∷ h ∷ hands) e .1 in
       o .afterwards
-      ∙ rw (eq-eqb _ 0 e) (ap (relaid s) (twice-handed (layoutsOf s) h hands (byte-small s a (sideOf (h .side)) (h .row))));
+      ∙ rw (eq-eqb _ 0 e) (ap (relaid s) (twice-handed (layoutsOf s) h hands (row-small s a (sideOf (h .side)) (h .row))));
 }

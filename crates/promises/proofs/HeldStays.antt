@@ -1,5 +1,5 @@
 -- Freeing, runs and hand lists change layout bytes only, and never a held side's.
-use Prim.Native.Nat.{ℕ, zero, suc}
+use Prim.Native.Nat.{ℕ, zero, suc, pred}
 use mathlib.Core.Path.{_≡_, refl, sym, ap, ap₂, _∙_, subst}
 use mathlib.Core.Bool.{Bool, true, false, cond, true≢false}
 use mathlib.Core.List.{List, [], _∷_}
@@ -8,9 +8,10 @@ use borrow.Author.Tests.{eqb-true}
 use lib.Dec.{eqb}
 use lib.ListN.{length, take, length-set}
 use lib.Seq.{take-at, length-take-le}
-use Rattle.tanglegram.specs.Order.{order, turnRow}
+use Rattle.tanglegram.specs.Order.{order, byte, turnRow}
 use Rattle.tanglegram.specs.Run.{Side, left, right, other, run, after}
 use Rattle.tanglegram.specs.Table.{Table, Layouts, layout, put, crossings, free, Least}
+use Rattle.tanglegram.proofs.Bytes.{flip-small}
 use Rattle.tanglegram.proofs.Run.{stays-good}
 use Rattle.tanglegram.specs.Table.{Fair, Fits}
 use Rattle.tanglegram.proofs.Table.{free-fits, free-small, frees, table-run}
@@ -23,6 +24,7 @@ use Rattle.record_fields.proofs.Meaning.{accepted-fair, accepted-fits, fits-lon
 use Rattle.record_fields.proofs.Meaning.{size-relaid, parts-relaid, table-relaid, relaid-accepted}
 use Rattle.record_fields.proofs.Tests.{layout-small, small-layout}
 use Rattle.record_arrays.specs.Sides.{sideOf, holds}
+use Rattle.record_arrays.proofs.OneRow.{set-bytes}
 use Rattle.calls_hands.specs.Refusals.{Hand, handsRefusal}
 use Rattle.calls_turns.specs.Refusals.{freeRefusal, runRefusal}
 use Rattle.calls_turns.specs.Calls.{freedLayouts, ranTo}
@@ -30,7 +32,6 @@ use Rattle.calls_hands.specs.Calls.{handed}
 use Rattle.calls_turns.proofs.Turns.{freeing-good, running-good}
 use Rattle.calls_hands.proofs.HandLists.{handing-accepted}
 use Rattle.calls_hands.proofs.Handed.{held-kept}
-use Rattle.calls_hands.proofs.TurnedRows.{turned-bytes}
 use Rattle.promises.specs.HeldStays as HeldStays
 use Rattle.promises.specs.HeldStays.{SameTrees, Keeps}
 
@@ -47,7 +48,7 @@ keeps-same s = record {
   held-order = λ side h. refl;
 }
 
--- layouts of the bytes 0 and 1
+-- layouts of bytes from 0 to 3
 abbrev Bytes : Layouts → Type 0
 Bytes new = (side : Side) → isLayout (layout new side) ≡ true
 
@@ -89,7 +90,7 @@ either s new s′ k e f = go (eqb k 0) refl e
     go true p q = subst (Keeps s) (sym q) (f (eqb-true k 0 p))
     go false p q = subst (Keeps s) (sym q) (keeps-same s)
 
--- freeing keeps bytes of 0 and 1, turn after turn
+-- freeing keeps them so, turn after turn
 freed-bytes : (T : Table) (F : Fair T) (side : Side) (L : Layouts) → Fits F L → Bytes L → Bytes (free T side L)
 freed-bytes T F side L fits b x =
     small-layout (layout (free T side L) x) (free-small T F side L fits (λ y. layout-small (layout L y) (b y)) x)
@@ -116,6 +117,15 @@ free-keeps s side e =
     untouched right left p q = refl
     untouched right right p q = absurd (true≢false (sym q ∙ p))
 
+-- a run's last layouts fit, and so do a hand list's
+pub ran-fits : (s : List ℕ) (a : refusal s ≡ 0) (allowance : ℕ) → Fits (accepted-fair s a) (ranTo s allowance .last)
+ran-fits s a allowance =
+    let F = accepted-fair s a in
+    let fits = accepted-fits s a in
+    subst (Fits F) (sym (table-run (tableOf s) F allowance (layoutsOf s) fits .is-after))
+    (stays-good (Fits F) (crossings (tableOf s)) (Least (tableOf s)) (free (tableOf s)) (frees (tableOf s) F)
+    (ranTo s allowance .turns) left (layoutsOf s) fits)
+
 run-keeps : (s : List ℕ) (allowance : ℕ) → runRefusal s allowance ≡ 0 → Keeps s (relaid s (ranTo s allowance .last))
 run-keeps s allowance e =
     let g = running-good s allowance e in
@@ -123,10 +133,8 @@ run-keeps s allowance e =
     let F = accepted-fair s a in
     let fits = accepted-fits s a in
     let ends = table-run (tableOf s) F allowance (layoutsOf s) fits in
-    let after-fits = stays-good (Fits F) (crossings (tableOf s)) (Least (tableOf s)) (free (tableOf s)) (frees (tableOf s) F)
-    (ranTo s allowance .turns) left (layoutsOf s) fits in
     let bytes = after-bytes (tableOf s) F (ranTo s allowance .turns) left (layoutsOf s) fits (its-bytes s a) in
-    keeps-relaid s a (ranTo s allowance .last) (subst (Fits F) (sym (ends .is-after)) after-fits)
+    keeps-relaid s a (ranTo s allowance .last) (ran-fits s a allowance)
     (subst Bytes (sym (ends .is-after)) bytes) (λ x h. absurd (none x (g .2) (g .3) h))
   where
     none : (x : Side) → holds (holdOf s) left ≡ false → holds (holdOf s) right ≡ false → holds (holdOf s) x ≡ true → ⊥
@@ -145,22 +153,25 @@ handed-long (h ∷ hs) at side = handed-long hs _ side ∙ by (sideOf (h .side))
     by right left = refl
     by right right = simp length-set
 
+pub handed-fits : (s : List ℕ) (a : refusal s ≡ 0) (hands : List Hand) → Fits (accepted-fair s a) (handed (layoutsOf s) hands)
+handed-fits s a hands side = handed-long hands (layoutsOf s) side ∙ accepted-fits s a side
+
 handed-bytes : (hands : List Hand) (at : Layouts) → Bytes at → Bytes (handed at hands)
 unfolding handed
 handed-bytes [] at b = b
 handed-bytes (h ∷ hs) at b = handed-bytes hs _ (by (sideOf (h .side)))
   where
     by : (x : Side) → Bytes (put x (turnRow (layout at x) (h .row)) at)
-    by left left = turned-bytes (at .left-bytes) (h .row) (b left)
+    by left left = set-bytes (at .left-bytes) (pred (h .row)) _ (flip-small (byte (at .left-bytes) (h .row))) (b left)
     by left right = b right
     by right left = b left
-    by right right = turned-bytes (at .right-bytes) (h .row) (b right)
+    by right right = set-bytes (at .right-bytes) (pred (h .row)) _ (flip-small (byte (at .right-bytes) (h .row))) (b right)
 
 hands-keep : (s : List ℕ) (hands : List Hand) → handsRefusal s hands ≡ 0 → Keeps s (relaid s (handed (layoutsOf s) hands))
 hands-keep s hands e =
     let a = handing-accepted s hands e .1 in
-    keeps-relaid s a (handed (layoutsOf s) hands) (λ side. handed-long hands (layoutsOf s) side ∙ accepted-fits s a side)
-    (handed-bytes hands (layoutsOf s) (its-bytes s a)) (λ side h. held-kept s hands side e h)
+    keeps-relaid s a (handed (layoutsOf s) hands) (handed-fits s a hands)
+    (handed-bytes hands (layoutsOf s) (its-bytes s a)) (λ side h. held-kept s hands e side h)
 
 pub held-stays : HeldStays.HeldStays
 held-stays = record {

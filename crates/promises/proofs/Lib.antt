@@ -3,7 +3,9 @@ pub mod Tests
 pub mod RefusedCalls
 pub mod RowTold
 pub mod HeldStays
+pub mod PinnedStays
 pub mod SetHoldOnly
+pub mod PinOnly
 pub mod RoundTrip
 pub mod Demand1
 pub mod Demand2

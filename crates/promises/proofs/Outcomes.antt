@@ -30,6 +30,7 @@ outcomes = record {
   free = λ s side a b x y p q. (equal-to-one (p .answers) (q .answers), equal-to-one (p .afterwards) (q .afterwards));
   run = λ s allowance a b x y p q. (equal-to-one (p .answers) (q .answers), equal-to-one (p .afterwards) (q .afterwards));
   hands = λ s hands a b x y p q. (equal-to-one (p .answers) (q .answers), equal-to-one (p .afterwards) (q .afterwards));
+  pin = λ s side row pinned a b x y p q. (equal-to-one (p .answers) (q .answers), equal-to-one (p .afterwards) (q .afterwards));
   better = λ s side first second first-at second-at x y x-at y-at p q.
       (equal-to-one (p .answers) (q .answers), equal-to-one (p .begins) (q .begins));
   compare = λ s side first second a b p q. equal-to-one (p .answers) (q .answers);

@@ -23,6 +23,7 @@ use Rattle.calls_show.specs.Calls.{squaredEntanglement, squaredRefusal, displac
 use Rattle.calls_show.specs.Calls.{thousandthsRefusal, thousandthsIn}
 use Rattle.calls_turns.specs.Refusals.{freeRefusal, runRefusal}
 use Rattle.calls_hands.specs.Refusals.{handsRefusal}
+use Rattle.calls_pins.specs.Refusals.{pinRefusal}
 use Rattle.calls_better.specs.Refusals.{betterRefusal}
 use Rattle.calls_better.specs.Calls.{betterPart, betterWhich}
 use Rattle.newick.specs.Sentence.{leafCount}
@@ -83,6 +84,8 @@ refused-calls = record {
       );
   hands = λ s hands answer s′ o h.
       o .afterwards ∙ rw (ne-eqb (handsRefusal s hands) 0 (λ z. h (ap (λ a. a .number) (o .answers) ∙ z))) refl;
+  pin = λ s side row pinned answer s′ o h.
+      o .afterwards ∙ rw (ne-eqb (pinRefusal s side row) 0 (λ z. h (ap (λ a. a .number) (o .answers) ∙ z))) refl;
   better = λ s side first second first-at second-at part part-at o h.
       let e = ne-eqb (betterRefusal s side first second) 0 h in
       (o .answers ∙ rw e refl, o .begins ∙ rw e refl);

@@ -17,6 +17,7 @@ use Rattle.calls_show.specs.Calls.{squaredRefusal}
 use Rattle.calls_show.proofs.Outcomes.{order-own, squared-told, thousandths-told}
 use Rattle.calls_turns.proofs.Turns.{free-own, run-own}
 use Rattle.calls_hands.proofs.HandLists.{hands-own}
+use Rattle.calls_pins.proofs.Pinned.{pin-own}
 use Rattle.calls_better.proofs.Compared.{compare-own}
 use Rattle.calls_newick.proofs.Outcomes.{write-own}
 use Rattle.calls_merge.proofs.SideWritten.{merge-own}
@@ -47,6 +48,7 @@ row-told = record {
   free = λ s side answer s′ p. tells-row s (free-own s side refl) (ap (λ a. a .refusal) (p .answers));
   run = λ s allowance answer s′ p. tells-row s (run-own s allowance refl) (ap (λ a. a .refusal) (p .answers));
   hands = λ s hands answer s′ p. tells-row s (hands-own s hands refl) (p .answers);
+  pin = λ s side row pinned answer s′ p. tells-row s (pin-own s side row refl) (p .answers);
   compare = λ s side first second answer p. tells-row s (compare-own s side first second refl) (ap (λ a. a .refusal) (p .answers));
   better-check = λ s side first second answer p. tells-row s (compare-own s side first second refl) (p .answers);
   newick-write = λ s side out answer out′ p. tells-row s (write-own s side out refl) (ap (λ a. a .refusal) (p .answers));

@@ -7,7 +7,9 @@ use Rattle.promises.specs.Tests.{Tests}
 use Rattle.promises.specs.RefusedCalls.{RefusedCalls}
 use Rattle.promises.specs.RowTold.{RowTold}
 use Rattle.promises.specs.HeldStays.{HeldStays}
+use Rattle.promises.specs.PinnedStays.{PinnedStays}
 use Rattle.promises.specs.SetHoldOnly.{SetHoldPromise}
+use Rattle.promises.specs.PinOnly.{PinPromise}
 
 pub record Demand1 : Type 0 where
   -- "Every call .. either answers or refuses exactly as .. fixes": each statement has one outcome, for every input.
@@ -18,6 +20,9 @@ pub record Demand1 : Type 0 where
   pub refused-keeps : RefusedCalls
   -- A refusal of 7 or 8 says which row is bad.
   pub row-told : RowTold
-  -- "A held side is never moved": not by the calls that move sides, nor by setting the hold.
+  -- "A held side is never moved": not by the calls that move sides, nor by setting the hold; nor is a pinned row ever turned over. Pinning
+  -- moves nothing.
   pub held-never-moved : HeldStays
+  pub pinned-stays : PinnedStays
   pub hold-set-only : SetHoldPromise
+  pub pin-only : PinPromise

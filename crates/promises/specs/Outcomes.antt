@@ -2,6 +2,7 @@
 -- to it. Prove that any two outcomes satisfying it are equal." Here for every call; for those of C, see `tangle`.
 use Prim.Native.Nat.{ℕ}
 use mathlib.Core.Path.{_≡_}
+use mathlib.Core.Bool.{Bool}
 use mathlib.Core.List.{List}
 use lib.IntN.{ℤ}
 use Rattle.record_fields.specs.Fields.{Parts}
@@ -14,6 +15,7 @@ use Rattle.calls_show.specs.Calls.{Orders, Counts, SquaredEntangles, TellsThous
 use Rattle.calls_turns.specs.Calls.{Frees, Runs}
 use Rattle.calls_hands.specs.Refusals.{Hand}
 use Rattle.calls_hands.specs.Calls.{Hands}
+use Rattle.calls_pins.specs.Calls.{Pins}
 use Rattle.calls_better.specs.Calls.{Address, Betters, Compares, BetterChecks}
 use Rattle.calls_newick.specs.Calls.{NewickReads, NewickWrites}
 use Rattle.calls_merge.specs.Calls.{MergeReads, MergeWrites}
@@ -47,6 +49,7 @@ pub record Outcomes : Type 0 where
   pub run : (s : List ℕ) (allowance : ℕ) → FixesBoth (Runs s allowance)
   -- Of both forms, and of one against the other.
   pub hands : (s : List ℕ) (hands : List Hand) → FixesBoth (Hands s hands)
+  pub pin : (s : List ℕ) (side row : ℕ) (pinned : Bool) → FixesBoth (Pins s side row pinned)
   -- The part's entries and its address.
   pub better : (s : List ℕ) (side : ℕ) (first second : List ℕ) (first-at second-at : Address) (x y : List ℕ) (x-at y-at : Address) →
       Betters s side first second first-at second-at x x-at → Betters s side first second first-at second-at y y-at →

@@ -11,7 +11,7 @@ use Rattle.promises.specs.Tried.{Tried}
 
 pub record Promises : Type 0 where
   -- Every call answers or refuses in one way only; a refused call changes nothing, and 7 and 8 say which row is bad; a held side is never
-  -- moved.
+  -- moved, nor is a pinned row turned over.
   pub demand1 : Demand1
   -- Orders and crossings are the published ones; freeing is least, row by row; what is packed is read out the same, and what is read is
   -- packed the same.

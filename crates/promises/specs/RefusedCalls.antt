@@ -2,6 +2,7 @@
 -- found." For every call that has another number to answer, or writes to what is lent; of the row that comes with 7 and 8, see `RowTold`.
 use Prim.Native.Nat.{ℕ}
 use mathlib.Core.Path.{_≡_}
+use mathlib.Core.Bool.{Bool}
 use mathlib.Core.Logic.{_≢_}
 use mathlib.Core.List.{List, []}
 use mathlib.Core.Option.{none}
@@ -21,6 +22,7 @@ use Rattle.calls_turns.specs.declared.answers.Ran.{Ran}
 use Rattle.calls_turns.specs.Calls.{Frees, Runs}
 use Rattle.calls_hands.specs.Refusals.{Hand}
 use Rattle.calls_hands.specs.Calls.{Hands}
+use Rattle.calls_pins.specs.Calls.{Pins}
 use Rattle.calls_better.specs.Refusals.{betterRefusal}
 use Rattle.calls_better.specs.declared.answers.Compared.{Compared}
 use Rattle.calls_better.specs.Calls.{Address, Betters, Compares}
@@ -60,6 +62,8 @@ pub record RefusedCalls : Type 0 where
   pub run : (s : List ℕ) (allowance : ℕ) (answer : Ran) (s′ : List ℕ) → Runs s allowance answer s′ → answer .refusal .number ≢ 0 →
       (s′ ≡ s) × (answer .first ≡ 0) × (answer .last ≡ 0) × (answer .turns ≡ 0) × (answer .settled ≡ 0)
   pub hands : (s : List ℕ) (hands : List Hand) (answer : Refusal) (s′ : List ℕ) → Hands s hands answer s′ → answer .number ≢ 0 → s′ ≡ s
+  pub pin : (s : List ℕ) (side row : ℕ) (pinned : Bool) (answer : Refusal) (s′ : List ℕ) → Pins s side row pinned answer s′ →
+      answer .number ≢ 0 → s′ ≡ s
   -- Better of two answers an empty part of the first order; its check call's number says why.
   pub better : (s : List ℕ) (side : ℕ) (first second : List ℕ) (first-at second-at : Address) (part : List ℕ) (part-at : Address) →
       Betters s side first second first-at second-at part part-at → betterRefusal s side first second ≢ 0 →

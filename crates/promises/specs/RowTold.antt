@@ -3,6 +3,7 @@
 -- that breaks the tree rule while each earlier row of that tree keeps it, 8 with one of the right tree, and any other number with row 0
 -- (`SaysRow`, in `record_fields/specs/Told`). Better of two itself answers no refusal; its check call does.
 use Prim.Native.Nat.{ℕ}
+use mathlib.Core.Bool.{Bool}
 use mathlib.Core.List.{List}
 use lib.IntN.{ℤ}
 use Rattle.record_fields.specs.declared.refusal.Refusal.{Refusal}
@@ -20,6 +21,7 @@ use Rattle.calls_turns.specs.declared.answers.Ran.{Ran}
 use Rattle.calls_turns.specs.Calls.{Frees, Runs}
 use Rattle.calls_hands.specs.Refusals.{Hand}
 use Rattle.calls_hands.specs.Calls.{Hands}
+use Rattle.calls_pins.specs.Calls.{Pins}
 use Rattle.calls_better.specs.declared.answers.Compared.{Compared}
 use Rattle.calls_better.specs.Calls.{Compares, BetterChecks}
 use Rattle.calls_newick.specs.declared.answers.NewickWritten.{NewickWritten}
@@ -49,6 +51,7 @@ pub record RowTold : Type 0 where
   pub run : (s : List ℕ) (allowance : ℕ) (answer : Ran) (s′ : List ℕ) → Runs s allowance answer s′ → Says s (answer .refusal)
   -- Of both forms.
   pub hands : (s : List ℕ) (hands : List Hand) (answer : Refusal) (s′ : List ℕ) → Hands s hands answer s′ → Says s answer
+  pub pin : (s : List ℕ) (side row : ℕ) (pinned : Bool) (answer : Refusal) (s′ : List ℕ) → Pins s side row pinned answer s′ → Says s answer
   pub compare : (s : List ℕ) (side : ℕ) (first second : List ℕ) (answer : Compared) → Compares s side first second answer →
       Says s (answer .refusal)
   pub better-check : (s : List ℕ) (side : ℕ) (first second : List ℕ) (answer : Refusal) → BetterChecks s side first second answer →

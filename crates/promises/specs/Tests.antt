@@ -1,5 +1,5 @@
 -- What the tests behind the refusals 7, 8, 9, 10 and 16 say. The refusals are stated by tests that can be carried out; each of them is
--- here what its words mean: the tree rule row by row, links one to one, bytes of 0 and 1, and the interval definition of compatible.
+-- here what its words mean: the tree rule row by row, links one to one, bytes from 0 to 3, and the interval definition of compatible.
 use Prim.Native.Nat.{ℕ, _≤_}
 use mathlib.Core.Path.{_≡_}
 use mathlib.Core.Bool.{true, false}
@@ -25,8 +25,8 @@ pub record Tests : Type 0 where
       Lowest n (upper rows) (lower rows) (badRow n (upper rows) (lower rows))
   -- 9: n links pass exactly if they are the numbers 1 to n in some order.
   pub one-to-one : (n : ℕ) (links : List ℕ) → length links ≡ n → (oneToOne n links ≡ true) ↔ List·Permᴰ links (range 1 n)
-  -- 10: bytes pass exactly if each is 0 or 1.
-  pub layout-bytes : (bytes : List ℕ) → (isLayout bytes ≡ true) ↔ Each (λ x. x ≤ 1) bytes
+  -- 10: bytes pass exactly if none is above 3.
+  pub layout-bytes : (bytes : List ℕ) → (isLayout bytes ≡ true) ↔ Each (λ x. x ≤ 3) bytes
   -- 16: an order proposed for a side of a record passes exactly if it has n entries, and its first n are a compatible order.
   pub compatible : (s : List ℕ) → refusal s ≡ 0 → (side : Side) (xs : List ℕ) →
       (isOrder (sizeOf s) (tableOf s .tree side) xs ≡ true) ↔

@@ -1,4 +1,5 @@
 pub mod AsItStands
 pub mod Relaying
+pub mod OneRow
 pub mod Apart
 pub mod Held

@@ -77,13 +77,13 @@ pub fn one_to_one_in(list: &[u16], n: u16) -> bool
     one_to_one(&links, n as usize)
 }
 
-// Whether each byte is 0 or 1.
+// Whether no byte is above 3.
 pub fn is_layout(bytes: &[u8]) -> bool
     ensures { λ r. ⌜ r ≡ isLayout (now (bytes .entry)) ⌝ }
 {
     let mut i = 0;
     while i < bytes.len() {
-        if 1 < bytes[i] {
+        if 3 < bytes[i] {
             return false;
         }
         i += 1;

@@ -84,26 +84,26 @@ one-to-one-perm n ps e = (
 
 -- ---- a layout, byte by byte
 
-pub layout-small : (xs : List ℕ) → isLayout xs ≡ true → Each (λ x. x ≤ 1) xs
+pub layout-small : (xs : List ℕ) → isLayout xs ≡ true → Each (λ x. x ≤ 3) xs
 unfolding isLayout
-layout-small xs e = each-map xs (λ x h. leb-true x 1 h) (all-each (λ x. leb x 1) xs e)
+layout-small xs e = each-map xs (λ x h. leb-true x 3 h) (all-each (λ x. leb x 3) xs e)
 
-pub small-layout : (xs : List ℕ) → Each (λ x. x ≤ 1) xs → isLayout xs ≡ true
+pub small-layout : (xs : List ℕ) → Each (λ x. x ≤ 3) xs → isLayout xs ≡ true
 unfolding isLayout
-small-layout xs e = all-of-each (λ x. leb x 1) xs (each-map xs (λ x h. le-leb x 1 h) e)
+small-layout xs e = all-of-each (λ x. leb x 3) xs (each-map xs (λ x h. le-leb x 3 h) e)
 
 pub no-bytes : isLayout [] ≡ true
 unfolding isLayout all
 no-bytes = refl
 
-pub layout-more : (xs : List ℕ) (i : ℕ) → i < length xs → isLayout (take i xs) ≡ true → getD xs i 0 ≤ 1 →
+pub layout-more : (xs : List ℕ) (i : ℕ) → i < length xs → isLayout (take i xs) ≡ true → getD xs i 0 ≤ 3 →
     isLayout (take (i + 1) xs) ≡ true
 unfolding isLayout all
 layout-more xs i h e b =
-    ap (all (λ x. leb x 1)) (take-more xs i 0 h)
-    ∙ all-append (λ x. leb x 1) (take i xs) (getD xs i 0 ∷ [])
-    ∙ rw (e, le-leb (getD xs i 0) 1 b) refl
+    ap (all (λ x. leb x 3)) (take-more xs i 0 h)
+    ∙ all-append (λ x. leb x 3) (take i xs) (getD xs i 0 ∷ [])
+    ∙ rw (e, le-leb (getD xs i 0) 3 b) refl
 
-pub layout-fails : (xs : List ℕ) (i : ℕ) → i < length xs → 1 < getD xs i 0 → isLayout xs ≡ false
+pub layout-fails : (xs : List ℕ) (i : ℕ) → i < length xs → 3 < getD xs i 0 → isLayout xs ≡ false
 unfolding isLayout
-layout-fails xs i h b = all-fails (λ x. leb x 1) (mem-at xs i h) (lt-leb (getD xs i 0) 1 b)
+layout-fails xs i h b = all-fails (λ x. leb x 3) (mem-at xs i h) (lt-leb (getD xs i 0) 3 b)

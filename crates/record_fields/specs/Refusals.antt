@@ -46,10 +46,10 @@ unfoldable pub oneToOne : ℕ → List ℕ → Bool
 unfolding all among
 oneToOne n links = all (λ c. among c links) (range 1 n)
 
--- Each byte is 0 or 1.
+-- No byte is above 3.
 unfoldable pub isLayout : List ℕ → Bool
 unfolding all
-isLayout bytes = all (λ x. leb x 1) bytes
+isLayout bytes = all (λ x. leb x 3) bytes
 
 -- The content of the parts.
 unfoldable pub contentsRefusal : Parts → ℕ

@@ -44,7 +44,7 @@ pub const LEFT_ROW: u16 = 7;
 pub const RIGHT_ROW: u16 = 8;
 // the links aren't one-to-one on 1 to n
 pub const LINKS: u16 = 9;
-// a layout byte isn't 0 or 1
+// a layout byte is above 3
 pub const LAYOUT: u16 = 10;
 // the call frees a held side, runs while a side is held, or has a hand entry for a held side
 pub const HELD: u16 = 11;
@@ -68,3 +68,5 @@ pub const LEAVES: u16 = 19;
 pub const ENTRY: u16 = 20;
 // an entry of a merge table is used twice
 pub const TWICE: u16 = 21;
+// a hand list names a pinned row
+pub const PINNED: u16 = 22;

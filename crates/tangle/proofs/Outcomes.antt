@@ -37,6 +37,9 @@ outcomes-for-c = record {
   hold =
       λ s letter a b x y g h.
       (alike (λ _ _ p q. equal-to-one (p .answers) (q .answers)) g h, equal-to-one (g .called .afterwards) (h .called .afterwards));
+  pin =
+      λ s side row pin a b x y g h.
+      (alike (λ _ _ p q. equal-to-one (p .answers) (q .answers)) g h, equal-to-one (g .called .afterwards) (h .called .afterwards));
   pack =
       λ P out a b x y g h.
       (alike (λ _ _ p q. equal-to-one (p .answers) (q .answers)) g h, equal-to-one (g .called .afterwards) (h .called .afterwards));

@@ -16,6 +16,7 @@ use Rattle.calls_show.specs.Calls.{squaredRefusal, thousandthsRefusal}
 use Rattle.calls_show.proofs.Outcomes.{order-own, squared-told, thousandths-told}
 use Rattle.calls_turns.proofs.Turns.{free-own, run-own}
 use Rattle.calls_hands.proofs.HandLists.{hands-own}
+use Rattle.calls_pins.proofs.Pinned.{pin-own}
 use Rattle.calls_better.proofs.Compared.{compare-own}
 use Rattle.calls_newick.proofs.Outcomes.{write-own}
 use Rattle.calls_merge.proofs.SideWritten.{merge-own}
@@ -74,6 +75,7 @@ rows-for-c = record {
       (λ a p. tells-row s (compare-own s side first second refl) (ap (λ c. c .refusal) (p .answers))) g;
   better-check = λ s side first second answer g. alone (λ a p. tells-row s (compare-own s side first second refl) (p .answers)) g;
   hold = λ s letter answer s′ g. alone (λ a p. tells-row s (set-hold-own s letter refl) (p .answers)) g;
+  pin = λ s side row pin answer s′ g. alone (λ a p. tells-row s (pin-own s side row refl) (p .answers)) g;
   pack = λ P out answer out′ g. alone (λ a p. tells-row-in P (pack-own P out) (p .answers)) g;
   unpack =
       λ s left right links left-layout right-layout o g.

@@ -1,5 +1,5 @@
 -- A wide number and the narrow one in its place: a call comes to the same with both, since beyond the limit it refuses both alike.
-use Prim.Native.Nat.{ℕ, _≤_}
+use Prim.Native.Nat.{ℕ, zero, suc, _-_, _≤_}
 use mathlib.Core.Path.{_≡_, refl, sym, ap, _∙_, subst}
 use mathlib.Core.Logic.{_≢_}
 use mathlib.Core.Bool.{Bool, true, false}
@@ -9,20 +9,25 @@ use borrow.Author.Tests.{ne-eqb, lt-ltb, ltb-true, ltb-false}
 use lib.Dec.{ltb}
 use lib.IntN.{ℤ}
 use Rattle.record_fields.specs.declared.refusal.Refusal.{Refusal}
-use Rattle.record_fields.specs.Fields.{Parts, given, packed}
-use Rattle.record_fields.specs.Refusals.{isHold, noSize, setHoldRefusal}
+use Rattle.record_fields.specs.Fields.{Parts, given, sizeOf, packed}
+use Rattle.record_fields.specs.Refusals.{isHold, noSize, refusal, setHoldRefusal}
 use Rattle.record.specs.Calls.{SetsHold}
 use Rattle.record_fields.specs.Told.{toldIn, toldOf}
+use Rattle.record_fields.proofs.Acceptance.{accepted-sized}
 use Rattle.record_fields.proofs.Refused.{lent-refused}
 use Rattle.record_fields.proofs.Told.{Alone, told-alone}
 use Rattle.record_packing.specs.Refusals.{shapeRefusal, packRefusal}
 use Rattle.record_packing.specs.Calls.{Packs}
 use Rattle.record_arrays.specs.Sides.{isSide}
+use Rattle.record_arrays.specs.Rows.{noRow}
 use Rattle.calls_show.specs.Calls.{Orders}
 use Rattle.calls_show.proofs.Outcomes.{ordering-13}
 use Rattle.calls_turns.specs.declared.answers.Freed.{Freed}
 use Rattle.calls_turns.specs.Calls.{Frees}
 use Rattle.calls_turns.proofs.Turns.{freeing-13}
+use Rattle.calls_pins.specs.Refusals.{pinRefusal}
+use Rattle.calls_pins.specs.Calls.{Pins}
+use Rattle.calls_pins.proofs.Pinned.{pinning-13, pinning-record, pinning-15}
 use Rattle.calls_better.specs.declared.answers.Compared.{Compared}
 use Rattle.calls_better.specs.Calls.{betterWhich, Compares, BetterChecks}
 use Rattle.calls_better.proofs.Compared.{comparing-13}
@@ -68,6 +73,12 @@ module _ {side k : ℕ} (w : Narrowed 65536 side k) where
       let e = freeing-13 s side no in
       record { answers = rw (← e) (rw (← z) at (p .answers)); afterwards = rw (← e) (rw (← z) at (p .afterwards)) })
 
+  pin-side-wide : {s s′ : List ℕ} {row : ℕ} {pinned : Bool} {a : Refusal} → Pins s k row pinned a s′ → Pins s side row pinned a s′
+  pin-side-wide {s} {s′} {row} {pinned} {a} = by-side (λ x. Pins s x row pinned a s′) (λ no p.
+      let z = pinning-13 s 0 row zero-no-side in
+      let e = pinning-13 s side row no in
+      record { answers = rw (← e) (rw (← z) at (p .answers)); afterwards = rw (← e) (rw (← z) at (p .afterwards)) })
+
   pub compare-wide : {s first second : List ℕ} {a : Compared} → Compares s k first second a → Compares s side first second a
   unfolding betterWhich
   compare-wide {s} {first} {second} {a} = by-side (λ x. Compares s x first second a) (λ no p.
@@ -93,6 +104,47 @@ module _ {side k : ℕ} (w : Narrowed 65536 side k) where
       let z = merging-13 s 0 out zero-no-side in
       let e = merging-13 s side out no in
       record { answers = rw (← e) (rw (← z) at (p .answers)); afterwards = rw (← e) (rw (← z) at (p .afterwards)) })
+
+-- ---- rows
+
+zero-no-row : (n : ℕ) → noRow n 0 ≡ true
+unfolding noRow
+zero-no-row n = refl
+
+far-no-row : (n row : ℕ) → n ≤ 512 → 65536 ≤ row → noRow n row ≡ true
+unfolding noRow
+far-no-row n row h far = rw (ne-eqb row 0 (λ e. omega arith), lt-ltb (n - 1) row (omega arith)) refl
+
+-- a row beyond 16 bits is refused as row 0 is
+far-row : (s : List ℕ) (side row : ℕ) → 65536 ≤ row → (pinRefusal s side 0 ≡ pinRefusal s side row) × (pinRefusal s side row ≢ 0)
+far-row s side row far = go (isSide side) refl (refusal s) refl
+  where
+    go : (b : Bool) → isSide side ≡ b → (k : ℕ) → refusal s ≡ k →
+        (pinRefusal s side 0 ≡ pinRefusal s side row) × (pinRefusal s side row ≢ 0)
+    go false b k r =
+        let e = pinning-13 s side row b in
+        (sym (pinning-13 s side 0 b) ∙ e, λ z. omega (arith, e, z))
+    go true b (suc k) r =
+        let some : refusal s ≢ 0 = λ z. omega (arith, r, z) in
+        let e = pinning-record s side row b some in
+        (sym (pinning-record s side 0 b some) ∙ e, λ z. some (e ∙ z))
+    go true b zero r =
+        let e = pinning-15 s side row b r (far-no-row (sizeOf s) row (accepted-sized s r .most) far) in
+        (sym (pinning-15 s side 0 b r (zero-no-row (sizeOf s))) ∙ e, λ z. omega (arith, e, z))
+
+pin-row-wide : {s s′ : List ℕ} {side row k : ℕ} {pinned : Bool} {a : Refusal} → Narrowed 65536 row k → Pins s side k pinned a s′ →
+    Pins s side row pinned a s′
+pin-row-wide {s} {s′} {side} {row} {k} {pinned} {a} w = widened (λ x. Pins s side x pinned a s′) w (λ far p.
+    let h = far-row s side row far in
+    let e = ne-eqb (pinRefusal s side row) 0 (h .1) in
+    record {
+      answers = p .answers ∙ ap (toldOf s) (h .0);
+      afterwards = rw e ((rw (h .0, e) at (p .afterwards)));
+    })
+
+pub pin-wide : {s s′ : List ℕ} {side x row y : ℕ} {pinned : Bool} {a : Refusal} → Narrowed 65536 side x → Narrowed 65536 row y →
+    Pins s x y pinned a s′ → Pins s side row pinned a s′
+pin-wide u v p = pin-side-wide u (pin-row-wide v p)
 
 -- ---- hold letters
 

@@ -1,9 +1,10 @@
 -- What the calls for C answer, and what was lent to them is afterwards, for every input: as the call itself, its answer field by field as
--- the number that C has. Sides, letters and n are the numbers that C hands over, of 32 bits.
+-- the number that C has. Sides, rows, letters and n are the numbers that C hands over, of 32 bits.
 use Prim.Native.Nat.{ℕ}
 use mathlib.Core.Path.{_≡_}
-use mathlib.Core.Bool.{false}
+use mathlib.Core.Bool.{false, not}
 use mathlib.Core.List.{List}
+use lib.Dec.{eqb}
 use lib.IntN.{ℤ, pos}
 use lib.Ieee.{fin}
 use Rattle.record_fields.specs.declared.refusal.Refusal.{Refusal}
@@ -23,6 +24,7 @@ use Rattle.calls_turns.specs.declared.answers.Ran.{Ran}
 use Rattle.calls_turns.specs.Calls.{Frees, Runs}
 use Rattle.calls_hands.specs.Refusals.{Hand}
 use Rattle.calls_hands.specs.Calls.{Hands}
+use Rattle.calls_pins.specs.Calls.{Pins}
 use Rattle.calls_better.specs.declared.answers.Compared.{Compared}
 use Rattle.calls_better.specs.Calls.{Compares, BetterChecks}
 use Rattle.calls_newick.specs.declared.answers.NewickRead.{NewickRead}
@@ -46,7 +48,7 @@ pub record Gives {A B : Type 0} (call : A → Type 0) (form : A → B) (answer :
   pub called : call given
   pub answers : answer ≡ form given
 
--- ---- check, order, hold, hands, better_check, pack, merge_read, merge_write: the refusal and its row alone
+-- ---- check, order, hold, pin, hands, better_check, pack, merge_read, merge_write: the refusal and its row alone
 
 abbrev pub refusalForC : Refusal → TangleRefusal
 refusalForC a = record { refusal = a .number; row = a .row }
@@ -59,6 +61,10 @@ OrdersForC s side out answer out′ = Gives (λ a. Orders s side out a out′) r
 
 abbrev pub SetsHoldForC : List ℕ → ℕ → TangleRefusal → List ℕ → Type 0
 SetsHoldForC s letter answer s′ = Gives (λ a. SetsHold s letter a s′) refusalForC answer
+
+-- 0 unpins, and any other number pins.
+abbrev pub PinsForC : List ℕ → ℕ → ℕ → ℕ → TangleRefusal → List ℕ → Type 0
+PinsForC s side row pin answer s′ = Gives (λ a. Pins s side row (not (eqb pin 0)) a s′) refusalForC answer
 
 abbrev pub HandsForC : List ℕ → List Hand → TangleRefusal → List ℕ → Type 0
 HandsForC s hands answer s′ = Gives (λ a. Hands s hands a s′) refusalForC answer

@@ -7,7 +7,7 @@ use Rattle.record_fields.specs.Fields.{Parts}
 use Rattle.record_fields.specs.Fixes.{Fixes, FixesBoth}
 use Rattle.calls_hands.specs.Refusals.{Hand}
 use Rattle.tangle.specs.declared.answers.TangleUnpack.{TangleUnpack}
-use Rattle.tangle.specs.ForC.{ChecksForC, OrdersForC, SetsHoldForC, HandsForC, BetterChecksForC, PacksForC, CountsForC}
+use Rattle.tangle.specs.ForC.{ChecksForC, OrdersForC, SetsHoldForC, PinsForC, HandsForC, BetterChecksForC, PacksForC, CountsForC}
 use Rattle.tangle.specs.ForC.{SquaredEntanglesForC, TellsThousandthsForC, FreesForC, RunsForC, ComparesForC, UnpacksForC}
 use Rattle.tangle.specs.ForC.{NewickReadsForC, NewickWritesForC, MergeReadsForC, MergeWritesForC}
 
@@ -38,6 +38,7 @@ pub record OutcomesForC : Type 0 where
   pub better : (s : List ℕ) (side : ℕ) (first second : List ℕ) → Fixes (ComparesForC s side first second)
   pub better-check : (s : List ℕ) (side : ℕ) (first second : List ℕ) → Fixes (BetterChecksForC s side first second)
   pub hold : (s : List ℕ) (letter : ℕ) → FixesBoth (SetsHoldForC s letter)
+  pub pin : (s : List ℕ) (side row pin : ℕ) → FixesBoth (PinsForC s side row pin)
   pub pack : (P : Parts) (out : List ℕ) → FixesBoth (PacksForC P out)
   pub unpack : (s left right links left-layout right-layout : List ℕ) → Fixes (UnpacksToForC s left right links left-layout right-layout)
   pub newick-read : (text out : List ℕ) → FixesBoth (NewickReadsForC text out)

@@ -17,7 +17,7 @@ use Rattle.tangle.specs.declared.answers.TangleRun.{TangleRun}
 use Rattle.tangle.specs.declared.answers.TangleBetter.{TangleBetter}
 use Rattle.tangle.specs.declared.answers.TangleNewickRead.{TangleNewickRead}
 use Rattle.tangle.specs.declared.answers.TangleNewickWrite.{TangleNewickWrite}
-use Rattle.tangle.specs.ForC.{ChecksForC, OrdersForC, SetsHoldForC, HandsForC, BetterChecksForC, PacksForC, CountsForC}
+use Rattle.tangle.specs.ForC.{ChecksForC, OrdersForC, SetsHoldForC, PinsForC, HandsForC, BetterChecksForC, PacksForC, CountsForC}
 use Rattle.tangle.specs.ForC.{SquaredEntanglesForC, TellsThousandthsForC, FreesForC, RunsForC, ComparesForC}
 use Rattle.tangle.specs.ForC.{NewickReadsForC, NewickWritesForC, MergeReadsForC, MergeWritesForC}
 use Rattle.tangle.specs.Outcomes.{UnpackOutcomeForC, UnpacksToForC}
@@ -45,6 +45,8 @@ pub record RowsForC : Type 0 where
   pub hold : (s : List ℕ) (letter : ℕ) (answer : TangleRefusal) (s′ : List ℕ) → SetsHoldForC s letter answer s′ →
       SaysRow (parts s) (answer .refusal) (answer .row)
   -- The rows are the lists'.
+  pub pin : (s : List ℕ) (side row pin : ℕ) (answer : TangleRefusal) (s′ : List ℕ) → PinsForC s side row pin answer s′ →
+      SaysRow (parts s) (answer .refusal) (answer .row)
   pub pack : (P : Parts) (out : List ℕ) (answer : TangleRefusal) (out′ : List ℕ) → PacksForC P out answer out′ →
       SaysRow P (answer .refusal) (answer .row)
   pub unpack : (s left right links left-layout right-layout : List ℕ) (o : UnpackOutcomeForC) →

@@ -1,8 +1,8 @@
-// The calls for C that change the lent record, and nothing else: hold, free, run and hand lists. A refused call
+// The calls for C that change the lent record, and nothing else: hold, pin, free, run and hand lists. A refused call
 // changes no byte.
 ghost use mathlib.Core.List.{map};
 ghost use Rattle.calls_hand_entries.specs.Entries.{handIn};
-ghost use Rattle.tangle.specs.ForC.{FreesForC, HandsForC, RunsForC, SetsHoldForC};
+ghost use Rattle.tangle.specs.ForC.{FreesForC, HandsForC, PinsForC, RunsForC, SetsHoldForC};
 use crate::answers::TangleFree;
 use crate::answers::TangleRefusal;
 use crate::answers::TangleRun;
@@ -16,6 +16,18 @@ pub extern "C" fn tangle_hold(s: &mut [u8], letter: u32) -> TangleRefusal
     ensures { λ r. ⌜ SetsHoldForC (now (s .entry)) letter r (now (s .exit)) ⌝ }
 {
     let refusal = record::set_hold(s, in_8_bits(letter));
+    TangleRefusal {
+        refusal: refusal.number as u32,
+        row: refusal.row as u32,
+    }
+}
+
+// Pins a row of a side of any bytes, or unpins it where `pin` is 0: that row's layout byte; or the refusal, and no byte.
+#[no_mangle]
+pub extern "C" fn tangle_pin(s: &mut [u8], side: u32, row: u32, pin: u32) -> TangleRefusal
+    ensures { λ r. ⌜ PinsForC (now (s .entry)) side row pin r (now (s .exit)) ⌝ }
+{
+    let refusal = calls_pins::pin(s, in_16_bits(side), in_16_bits(row), pin != 0);
     TangleRefusal {
         refusal: refusal.number as u32,
         row: refusal.row as u32,

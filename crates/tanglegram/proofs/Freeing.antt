@@ -3,18 +3,19 @@
 use Prim.Native.Nat.{ℕ, zero, suc, pred, _+_, _≤_, _<_}
 use mathlib.Core.Path.{_≡_, refl, sym, ap, ap₂, _∙_}
 use mathlib.Core.Logic.{_↔_, _⊎_, inl, inr, ⊎-elim}
-use mathlib.Core.Bool.{Bool, true, false, cond, not, true≢false, false≢true}
+use mathlib.Core.Bool.{Bool, true, false, cond, not, _&&_, true≢false, false≢true}
 use mathlib.Core.List.{List, List·Permᴰ, Permᴰ·symm}
 use native.Mathlib.Omega.{arith}
 use borrow.Author.Tests.{ltb-true, ltb-false}
 use lib.Dec.{ltb}
-use lib.ListN.{length}
+use lib.ListN.{length, List·getD-eq-default}
 use lib.Seq.{ext-getD}
 use Rattle.tanglegram.specs.Lists.{Each, range}
 use Rattle.tanglegram.specs.Tree.{Tree, leaf, fork, leaves, rows, EachRow, total}
 use Rattle.tanglegram.specs.Order.{turned, mayChange, flip, byte, Choice}
 use Rattle.tanglegram.specs.Crossings.{between, own, ownAt, cost}
 use Rattle.tanglegram.specs.Freeing.{choose, chooseAt, freed}
+use Rattle.tanglegram.proofs.Bytes.{turned-flip, mayChange-flip, flip-small}
 use Rattle.tanglegram.proofs.Lists.{each-map, each-at, each-getD, each-append, each-mem, each-perm, mem-range, distinct-perm}
 use Rattle.tanglegram.proofs.Lists.{range-distinct}
 use Rattle.tanglegram.proofs.Lists.{range-each}
@@ -24,11 +25,6 @@ use Rattle.tanglegram.proofs.Totals.{total-ext}
 use Rattle.tanglegram.proofs.Write.{length-write, write-cong, write-written, write-same, written-cong, written-rows}
 
 -- ---- one row: its own crossings a as given and b turned over, its byte x
-
--- what is asked of the two names by which a byte is read
-turned-flip : (x : ℕ) → turned (flip x) ≡ not (turned x)
-turned-flip zero = refl
-turned-flip (suc x) = refl
 
 -- its own crossings at a byte and turned over are those of both ways
 pub own-flip : (a b x : ℕ) → own a b x + own a b (flip x) ≡ a + b
@@ -58,13 +54,19 @@ module _ (a b x : ℕ) where
 
   choose-either : Turned ⊎ Kept
   unfolding Turned Kept choose
-  choose-either = go (ltb (own a b (flip x)) (own a b x)) refl
+  choose-either = go (mayChange x) (ltb (own a b (flip x)) (own a b x)) refl refl
     where
-      go : (t : Bool) → ltb (own a b (flip x)) (own a b x) ≡ t →
-          ((mayChange x ≡ true) × (own a b (flip x) < own a b x) × (cond t (flip x) x ≡ flip x)) ⊎
-          ((mayChange x ≡ true → own a b x ≤ own a b (flip x)) × (cond t (flip x) x ≡ x))
-      go true e = inl (refl, ltb-true _ _ e, refl)
-      go false e = inr (λ m. ltb-false _ _ e, refl)
+      go : (m t : Bool) → mayChange x ≡ m → ltb (own a b (flip x)) (own a b x) ≡ t →
+          ((m ≡ true) × (own a b (flip x) < own a b x) × (cond (m && t) (flip x) x ≡ flip x)) ⊎
+          ((m ≡ true → own a b x ≤ own a b (flip x)) × (cond (m && t) (flip x) x ≡ x))
+      go true true d e = inl (refl, ltb-true _ _ e, refl)
+      go true false d e = inr (λ _. ltb-false _ _ e, refl)
+      go false t d e = inr (λ z. absurd (false≢true z), refl)
+
+  -- a row that may not change keeps its byte
+  choose-pinned : mayChange x ≡ false → choose a b x ≡ x
+  unfolding choose
+  choose-pinned e = rw e refl
 
   -- turned exactly if it may change and that makes its own crossings strictly fewer
   pub choose-exactly : (choose a b x ≡ flip x) ↔ ((mayChange x ≡ true) × (own a b (flip x) < own a b x))
@@ -84,8 +86,12 @@ module _ (a b x : ℕ) where
   choose-least y g =
       ⊎-elim
       (λ h. rw (h .2) (own-either a b (own a b (flip x)) x y (omega (arith, h .1)) (omega arith)))
-      (λ h. rw (h .1) (own-either a b (own a b x) x y (omega arith) (h .0 refl)))
+      (λ h. rw (h .1) (by (mayChange x) refl (h .0)))
       choose-either
+    where
+      by : (m : Bool) → mayChange x ≡ m → (mayChange x ≡ true → own a b x ≤ own a b (flip x)) → own a b x ≤ own a b y
+      by true e h = own-either a b (own a b x) x y (omega arith) (h e)
+      by false e h = rw (g e) (omega arith)
 
   -- a byte that has no fewer is the same
   choose-same : own a b x ≤ own a b (choose a b x) → choose a b x ≡ x
@@ -119,10 +125,6 @@ module _ (w : ℕ → ℕ → ℕ) (old new : List ℕ) where
             (chosen-same u (c .1) (omega arith))
             (chosen-same l (c .2) (omega arith)),
       )
-
--- every layout is a choice, as long as every byte may change
-pub every-layout : (lay any : List ℕ) → Choice lay any
-every-layout lay any i h = absurd (true≢false h)
 
 -- ---- the freed layout, of a tree whose rows are 1 to m and a layout of m bytes
 
@@ -191,21 +193,53 @@ module _ (w : ℕ → ℕ → ℕ) (t : Tree) (m : ℕ) (r : List·Permᴰ (rows
       ext-getD 0 new (freed w t lay) (f ∙ sym e ∙ sym (length-freed w t lay))
       (λ i h. each-mem Same same (mem-range (suc i) 1 m (omega arith) (omega arith)))
 
-  -- bytes that are 0 or 1 stay so
-  pub freed-bytes : Each (λ x. x ≤ 1) lay → Each (λ x. x ≤ 1) (freed w t lay)
+  -- what holds at each row holds of every byte
+  every-byte : (P : ℕ → Type 0) → EachRow (λ i u l. P i) t → (i : ℕ) → i < m → P (suc i)
+  every-byte P h i below = each-mem P (each-perm P r (eachRow-rows P t h)) (mem-range (suc i) 1 m (omega arith) (omega arith))
+
+  -- layout bytes stay so
+  pub freed-bytes : Each (λ x. x ≤ 3) lay → Each (λ x. x ≤ 3) (freed w t lay)
   freed-bytes b =
-      let Small : ℕ → Type 0 = λ i. byte (freed w t lay) i ≤ 1 in
-      let old : (i : ℕ) → byte lay i ≤ 1 = λ i. each-getD (λ x. x ≤ 1) lay (omega arith) b (pred i) in
+      let Small : ℕ → Type 0 = λ i. byte (freed w t lay) i ≤ 3 in
+      let old : (i : ℕ) → byte lay i ≤ 3 = λ i. each-getD (λ x. x ≤ 3) lay (omega arith) b (pred i) in
       let at-rows =
       eachRow-map {Q = λ i u l. Small i} t (λ i u l h. ⊎-elim (λ e. rw e (flip-small (byte lay i))) (λ e. rw e (old i)) h)
       freed-either in
-      let all = each-perm Small r (eachRow-rows Small t at-rows) in
-      each-at (λ x. x ≤ 1) (freed w t lay)
-      (λ i h. each-mem Small all (mem-range (suc i) 1 m (omega arith) (omega (arith, length-freed w t lay))))
+      each-at (λ x. x ≤ 3) (freed w t lay) (λ i h. every-byte Small at-rows i (omega (arith, length-freed w t lay)))
+
+  -- what holds of a row's byte at each row, and of no byte, holds of every byte
+  every-number : (Q : ℕ → ℕ → Type 0) → EachRow (λ i u l. Q (byte (freed w t lay) i) (byte lay i)) t → Q 0 0 →
+      (i : ℕ) → Q (byte (freed w t lay) i) (byte lay i)
+  every-number Q h none i = by (ltb (pred i) m) refl
     where
-      flip-small : (x : ℕ) → flip x ≤ 1
-      flip-small x = go (turned x)
-        where
-          go : (b : Bool) → cond b 0 1 ≤ 1
-          go true = omega arith
-          go false = omega arith
+      by : (b : Bool) → ltb (pred i) m ≡ b → Q (byte (freed w t lay) i) (byte lay i)
+      by true q = every-byte (λ j. Q (byte (freed w t lay) j) (byte lay j)) h (pred i) (ltb-true (pred i) m q)
+      by false q =
+          let out = ltb-false (pred i) m q in
+          rw (List·getD-eq-default (freed w t lay) 0 {n = pred i} (omega (arith, out, length-freed w t lay)),
+          List·getD-eq-default lay 0 {n = pred i} (omega (arith, out)))
+          none
+
+  -- a pinned row's byte is as it was
+  pub freed-pinned : (i : ℕ) → mayChange (byte lay i) ≡ false → byte (freed w t lay) i ≡ byte lay i
+  freed-pinned =
+      every-number (λ x y. mayChange y ≡ false → x ≡ y)
+      (eachRow-map t (λ j u l c e. c ∙ choose-pinned (between w u l) (between w l u) (byte lay j) e) freed-chosen) (λ e. refl)
+
+  -- and no row is pinned or unpinned
+  pub freed-marks : (i : ℕ) → mayChange (byte (freed w t lay) i) ≡ mayChange (byte lay i)
+  freed-marks =
+      every-number (λ x y. mayChange x ≡ mayChange y)
+      (eachRow-map t (λ j u l h. ⊎-elim (λ e. ap mayChange e ∙ mayChange-flip (byte lay j)) (λ e. ap mayChange e) h) freed-either) refl
+
+  -- where every row is pinned, no byte changes
+  pub freed-standing : ((i : ℕ) → 1 ≤ i → i ≤ m → mayChange (byte lay i) ≡ false) → freed w t lay ≡ lay
+  freed-standing h =
+      ext-getD 0 (freed w t lay) lay (length-freed w t lay)
+      (λ i k. freed-pinned (suc i) (h (suc i) (omega arith) (omega (arith, length-freed w t lay))))
+
+  -- so a choice from the freed layout is one from the layout before
+  pub freed-choice : (any : List ℕ) → Choice (freed w t lay) any → Choice lay any
+  freed-choice any c i h =
+      let e = freed-pinned i h in
+      c i (ap mayChange e ∙ h) ∙ ap turned e

@@ -2,6 +2,7 @@ pub mod Bools
 pub mod Lists
 pub mod Tree
 pub mod Write
+pub mod Bytes
 pub mod Order
 pub mod Compatible
 pub mod Sums

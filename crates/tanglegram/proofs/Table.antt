@@ -3,7 +3,7 @@
 use Prim.Native.Nat.{ℕ, pred, _+_, _*_, _≤_, _<_}
 use mathlib.Core.Path.{_≡_, refl, ap, _∙_}
 use mathlib.Core.Logic.{_↔_}
-use mathlib.Core.Bool.{true}
+use mathlib.Core.Bool.{true, false}
 use mathlib.Core.List.{List, List·Permᴰ, List·Permᴰ·trans}
 use lib.ListN.{length}
 use Rattle.tanglegram.specs.Lists.{Each, range, place}
@@ -16,7 +16,8 @@ use Rattle.tanglegram.specs.Table.{Table, Layouts, pick, layout, put, li
 use Rattle.tanglegram.proofs.Tree.{leaves-once, rows-once}
 use Rattle.tanglegram.proofs.Order.{order-perm}
 use Rattle.tanglegram.proofs.Crossings.{count-left, count-right, pairs-cost, ends-apart, starts-apart}
-use Rattle.tanglegram.proofs.Freeing.{every-layout, length-freed, freed-exactly, freed-least, freed-same, freed-bytes}
+use Rattle.tanglegram.proofs.Freeing.{length-freed, freed-exactly, freed-least, freed-same, freed-bytes}
+use Rattle.tanglegram.proofs.Freeing.{freed-pinned, freed-marks, freed-standing, freed-choice}
 use Rattle.tanglegram.proofs.Turning.{leaf-product}
 use Rattle.tanglegram.proofs.Run.{Freeing, run-ends}
 
@@ -89,9 +90,9 @@ module _ (T : Table) (F : Fair T) where
   free-fits right s fits left = fits left
   free-fits right s fits right = length-freed (seen T s right) (T .tree right) (s .right-bytes) ∙ fits right
 
-  -- bytes of 0 and 1 stay so
-  pub free-small : (side : Side) (s : Layouts) → Fits F s → ((x : Side) → Each (λ b. b ≤ 1) (layout s x)) →
-      (x : Side) → Each (λ b. b ≤ 1) (layout (free T side s) x)
+  -- layout bytes stay so
+  pub free-small : (side : Side) (s : Layouts) → Fits F s → ((x : Side) → Each (λ b. b ≤ 3) (layout s x)) →
+      (x : Side) → Each (λ b. b ≤ 3) (layout (free T side s) x)
   free-small left s fits small left =
       freed-bytes (seen T s left) (T .tree left) (F .row-count left) (F .numbered left) (s .left-bytes) (fits left) (small left)
   free-small left s fits small right = small right
@@ -99,9 +100,41 @@ module _ (T : Table) (F : Fair T) where
   free-small right s fits small right =
       freed-bytes (seen T s right) (T .tree right) (F .row-count right) (F .numbered right) (s .right-bytes) (fits right) (small right)
 
+  -- pinned bytes stay
+  pub free-pinned : (side : Side) (s : Layouts) → Fits F s → (x : Side) (i : ℕ) → mayChange (byte (layout s x) i) ≡ false →
+      byte (layout (free T side s) x) i ≡ byte (layout s x) i
+  free-pinned left s fits left i h =
+      freed-pinned (seen T s left) (T .tree left) (F .row-count left) (F .numbered left) (s .left-bytes) (fits left) i h
+  free-pinned left s fits right i h = refl
+  free-pinned right s fits left i h = refl
+  free-pinned right s fits right i h =
+      freed-pinned (seen T s right) (T .tree right) (F .row-count right) (F .numbered right) (s .right-bytes) (fits right) i h
+
+  -- no row is pinned or unpinned
+  pub free-marks : (side : Side) (s : Layouts) → Fits F s → (x : Side) (i : ℕ) →
+      mayChange (byte (layout (free T side s) x) i) ≡ mayChange (byte (layout s x) i)
+  free-marks left s fits left i =
+      freed-marks (seen T s left) (T .tree left) (F .row-count left) (F .numbered left) (s .left-bytes) (fits left) i
+  free-marks left s fits right i = refl
+  free-marks right s fits left i = refl
+  free-marks right s fits right i =
+      freed-marks (seen T s right) (T .tree right) (F .row-count right) (F .numbered right) (s .right-bytes) (fits right) i
+
+  -- a side of which every row is pinned stands
+  pub free-standing : (side : Side) (s : Layouts) → Fits F s →
+      ((i : ℕ) → 1 ≤ i → i ≤ F .row-count side → mayChange (byte (layout s side) i) ≡ false) → free T side s ≡ s
+  free-standing side s fits h =
+      ap (λ lay. put side lay s)
+      (freed-standing (seen T s side) (T .tree side) (F .row-count side) (F .numbered side) (layout s side) (fits side) h)
+      ∙ put-same side s
+
   pub free-settles : (side : Side) (s : Layouts) → Fits F s → Least T side (free T side s)
-  free-settles left s fits any h = free-least left s fits any (every-layout (s .left-bytes) any)
-  free-settles right s fits any h = free-least right s fits any (every-layout (s .right-bytes) any)
+  free-settles left s fits any h =
+      free-least left s fits any
+      (freed-choice (seen T s left) (T .tree left) (F .row-count left) (F .numbered left) (s .left-bytes) (fits left) any h)
+  free-settles right s fits any h =
+      free-least right s fits any
+      (freed-choice (seen T s right) (T .tree right) (F .row-count right) (F .numbered right) (s .right-bytes) (fits right) any h)
 
   pub frees : Freeing (Fits F) (crossings T) (Least T) (free T)
   frees = record { stays = free-fits; falls = free-falls; keeps = free-same; least = free-settles }

@@ -1,24 +1,36 @@
 -- Layouts and leaf orders: what a layout byte says, the order that a layout gives, and which orders are compatible with a tree.
 use Prim.Native.Nat.{ℕ, zero, suc, pred}
 use mathlib.Core.Path.{_≡_}
-use mathlib.Core.Bool.{Bool, true, false, cond}
+use mathlib.Core.Bool.{Bool, true, false, cond, not}
 use mathlib.Core.List.{List, [], _∷_, _++_, List·Permᴰ}
 use lib.Dec.{ltb}
 use lib.ListN.{length, getD, set, take, drop}
 use Rattle.tanglegram.specs.Lists.{place, bit}
 use Rattle.tanglegram.specs.Tree.{Tree, leaf, fork, leaves, EachObject}
 
--- A layout byte is read by these two names only. 0 is as given, 1 turned over; every byte may change.
+-- A layout byte is read by these two names only. 0 is as given and 1 turned over; 2 is as given and 3 turned over too, and both are
+-- pinned: such a row is not turned over, it may not change. No layout byte is above 3.
 abbrev pub turned : ℕ → Bool
 turned zero = false
-turned (suc x) = true
+turned (suc zero) = true
+turned (suc (suc zero)) = false
+turned (suc (suc (suc x))) = true
 
 abbrev pub mayChange : ℕ → Bool
-mayChange x = true
+mayChange zero = true
+mayChange (suc zero) = true
+mayChange (suc (suc x)) = false
 
--- The byte that turns a row over.
+-- The byte of a row: pinned or not, turned over or as given.
+abbrev pub byteOf : Bool → Bool → ℕ
+byteOf pin turn = cond pin (cond turn 3 2) (cond turn 1 0)
+
+-- The byte that turns a row over, pinned as it was; the byte that pins a row or unpins it, turned as it was.
 abbrev pub flip : ℕ → ℕ
-flip x = cond (turned x) 0 1
+flip x = byteOf (not (mayChange x)) (not (turned x))
+
+abbrev pub withPin : Bool → ℕ → ℕ
+withPin pin x = byteOf pin (turned x)
 
 -- Row i has the byte at place i - 1 of a layout.
 abbrev pub byte : List ℕ → ℕ → ℕ
@@ -28,7 +40,11 @@ byte lay i = getD lay (pred i) 0
 abbrev pub turnRow : List ℕ → ℕ → List ℕ
 turnRow lay i = set lay (pred i) (flip (byte lay i))
 
--- A choice of turnings, from a layout: a layout that turns as before each row that may not change.
+-- Row i pinned or unpinned, and no other.
+abbrev pub pinRow : Bool → List ℕ → ℕ → List ℕ
+pinRow pin lay i = set lay (pred i) (withPin pin (byte lay i))
+
+-- A choice of turnings, from a layout: a layout that turns as before each row that may not change, so each pinned row.
 abbrev pub Choice : List ℕ → List ℕ → Type 0
 Choice lay any = (i : ℕ) → mayChange (byte lay i) ≡ false → turned (byte any i) ≡ turned (byte lay i)
 

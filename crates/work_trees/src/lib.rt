@@ -13,3 +13,4 @@ pub use turning::flipped;
 pub use turning::is_turned;
 pub use turning::layout_order;
 pub use turning::may_change;
+pub use turning::with_pin;

@@ -3,7 +3,7 @@ ghost use mathlib.Core.Path.{_≡_};
 ghost use Prim.Native.Nat.{_+_, _≤_};
 ghost use mathlib.Core.List.{_++_};
 ghost use lib.ListN.{length, drop};
-ghost use Rattle.tanglegram.specs.Order.{flip, mayChange, turned, order};
+ghost use Rattle.tanglegram.specs.Order.{byteOf, flip, mayChange, turned, withPin, order};
 ghost use Rattle.work_trees.specs.Rows.{GoodRows, size, treeOf};
 ghost use Rattle.work_trees.specs.Exchange.{exchanged};
 use crate::leaves::count_leaves;
@@ -13,21 +13,38 @@ use crate::leaves::leaf_order;
 pub fn is_turned(x: u8) -> bool
     ensures { λ r. ⌜ r ≡ turned x ⌝ }
 {
-    x != 0
+    x != 0 && x != 2
 }
 
-// Whether a row with that byte may be turned over: every row may.
+// Whether a row with that byte may be turned over: it is not pinned.
 pub fn may_change(x: u8) -> bool
     ensures { λ r. ⌜ r ≡ mayChange x ⌝ }
 {
-    true
+    x < 2
 }
 
-// The byte that turns over a row whose byte is x.
+// The byte of a row: pinned or not, turned over or as given.
+fn byte_of(pin: bool, turn: bool) -> u8
+    ensures { λ r. ⌜ r ≡ byteOf pin turn ⌝ }
+{
+    if pin {
+        return if turn { 3 } else { 2 };
+    }
+    if turn { 1 } else { 0 }
+}
+
+// The byte that turns over a row whose byte is x, pinned as it was.
 pub fn flipped(x: u8) -> u8
     ensures { λ r. ⌜ r ≡ flip x ⌝ }
 {
-    if is_turned(x) { 0 } else { 1 }
+    byte_of(!may_change(x), !is_turned(x))
+}
+
+// The byte that pins a row whose byte is x, or unpins it, turned as it was.
+pub fn with_pin(pin: bool, x: u8) -> u8
+    ensures { λ r. ⌜ r ≡ withPin pin x ⌝ }
+{
+    byte_of(pin, is_turned(x))
 }
 
 // Exchanges the two entries of each row that the layout turns.

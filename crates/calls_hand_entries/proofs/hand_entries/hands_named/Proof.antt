@@ -55,7 +55,7 @@ use denote.Triple.Table.{entered, cited}
 use denote.Triple.Walked.{says, Stays, stay-slice, stay-none-slice, walkOf, goes-slice, goes-none-slice, Walks, ends-at, walked, walk-meets}
 use denote.Exit.{yes}
 use Rattle.record_fields.specs.declared.refusal.Refusal.{Refusal}
-use Rattle.record_fields.specs.Fields.{holdOf, sizeOf}
+use Rattle.record_fields.specs.Fields.{sizeOf}
 use Rattle.record_fields.specs.Meaning.{layoutsOf, relaid}
 use Rattle.record_fields.specs.Refused.{refused}
 use Rattle.record_fields.specs.Told.{OwnRow, toldOf}
@@ -310,7 +310,7 @@ module _ {M : Type 1} (𝓤 : URA M) (H : Heap 𝓤) (A : Atoms 𝓤) (W : Given
   -- ---- where the turns stand: at entry i, with the record at l
 
   abbrev Facts : ℕ → List ℕ → Type 0
-  Facts i l = (i ≤ n) × (length l ≡ m) × HandsUnderWay (holdOf bs) (sizeOf bs) bs whole-list (map handIn (dropped i ys)) l
+  Facts i l = (i ≤ n) × (length l ≡ m) × HandsUnderWay (sizeOf bs) bs whole-list (map handIn (dropped i ys)) l
 
   abbrev Upto : Type 0
   Upto = (p : ℕ × List ℕ) × Facts (p .0) (p .1)
@@ -325,13 +325,13 @@ module _ {M : Type 1} (𝓤 : URA M) (H : Heap 𝓤) (A : Atoms 𝓤) (W : Given
   starts : (r : ℕ) → r ≡ handsRefusal bs whole-list → r ≡ 0 → Facts 0 bs
   starts r e z =
       let a = handing-accepted bs whole-list (sym e ∙ z) in
-      (zero-le, refl, turning-start (holdOf bs) (sizeOf bs) bs whole-list (over-its-leaves bs (a .1)) (a .2))
+      (zero-le, refl, turning-start (sizeOf bs) bs whole-list (over-its-leaves bs (a .1)) (a .2))
 
   ends : (k : ℕ) → k ≡ handsRefusal bs whole-list → k ≡ 0 → (i : Upto) → n ≤ i .0 .0 → {r : Refusal} → r ≡ refused 0 →
       Hands bs whole-list r (i .0 .1)
   ends k e z i over a =
       hands-accepted bs whole-list (sym e ∙ z) a
-      (turning-end (holdOf bs) (sizeOf bs) bs whole-list (i .1 .2) (rest-none handIn none ys (i .0 .0) over))
+      (turning-end (sizeOf bs) bs whole-list (i .1 .2) (rest-none handIn none ys (i .0 .0) over))
 
   module _ (𝓣 : Tables 𝓤 H) (known-test : Triple 𝓤 (𝓣 .C #test) (Test 𝓤 H A mem run))
       (known-turn : Triple 𝓤 (𝓣 .C #turn) (Turn 𝓤 H A mem run)) (known-refuse : Triple 𝓤 (𝓣 .C #refuse) (Refuse 𝓤 H A mem run))
@@ -434,7 +434,7 @@ module _ {M : Type 1} (𝓤 : URA M) (H : Heap 𝓤) (A : Atoms 𝓤) (W : Given
           ⊛ ‵ (LentAgain u8 κ (ν ∷ []) q γ b o δ l)))) (lends-again u8 κ (ν ∷ []) q γ b o 𝓤 H A W (named 0) (named 0) l) $
           await ! tt $ pick ! (λ δ. split ! $
           move ! (2 ∷ 0 ∷ []) $ use2 W (raw (Turn 𝓤 H A mem run .pre (to-turn ν δ j l)))
-          (asks-turn ν δ j l (turning-asks (holdOf bs) (sizeOf bs) bs whole-list (i .1 .2) cut)
+          (asks-turn ν δ j l (turning-asks (sizeOf bs) bs whole-list (i .1 .2) cut)
           (LL.owed T.the-type T′.the-laws (entry j) _ g .0 .1) (LL.owed T.the-type T′.the-laws (entry j) _ g .1 .0 .1)) $
           -- [what is asked; what waits; the list's token; its borrow; res; its fact; _17; …]
           calls-at ! (fmOf 𝓤 H (W .laws) 𝓣) (Turn 𝓤 H A mem run) known-turn (to-turn ν δ j l)
@@ -466,7 +466,7 @@ module _ {M : Type 1} (𝓤 : URA M) (H : Heap 𝓤) (A : Atoms 𝓤) (W : Given
             (
               add-one-le h,
               same ∙ i .1 .1,
-              turning-more (holdOf bs) (sizeOf bs) bs whole-list (i .1 .2) cut e,
+              turning-more (sizeOf bs) bs whole-list (i .1 .2) cut e,
             ),
           ) (falls n j h))))))))))))
           (λ over. jumps ! $ exec ! C Λ En mir.t-8 (atRet En Post) $

@@ -50,13 +50,14 @@ use denote.Triple.Spec.{Meets, tripleOf}
 use denote.Triple.Table.{entered, cited}
 use denote.Triple.Walked.{says, Stays, stay-none-slice, walkOf, goes-none-slice, Walks, ends-at, walked, walk-meets}
 use denote.Exit.{yes}
-use Rattle.record_fields.specs.Fields.{mostHands, holdOf, sizeOf}
+use Rattle.record_fields.specs.Fields.{mostHands, sizeOf}
 use Rattle.record_fields.specs.Refusals.{orElse, refusal}
 use Rattle.calls_hand_entries.specs.declared.hand_entries.HandEntry.{HandEntry}
 use Rattle.calls_hands.specs.Refusals.{hand, handRefusal, handsRefusal}
 use Rattle.calls_hand_entries.specs.Entries.{handIn}
 use Rattle.calls_hand_entries.proofs.ByHand.{tail, idle, has, not-none, is-none}
-use Rattle.record_arrays.proofs.AsItStands.{long-enough}
+use Rattle.record_arrays.specs.Sides.{RecordOver}
+use Rattle.record_arrays.proofs.AsItStands.{over-its-leaves}
 use Rattle.calls_hands.proofs.HandLists.{Found, found-start, found-more, found-end, first-accepted, first-number, second-number}
 use Rattle.calls_hand_entries.proofs.hand_entries.HandEntry as T
 use Rattle.calls_hand_entries.proofs.hand_entries.HandEntry.Laws as T′
@@ -187,17 +188,17 @@ module _ {M : Type 1} (𝓤 : URA M) (H : Heap 𝓤) (A : Atoms 𝓤) (W : Given
     tt,
   )
 
-  asks-step : (i k : ℕ) → 8 ≤ m → k < 2 ^ 16 → entry i .side < 2 ^ 32 → entry i .row < 2 ^ 32 →
+  asks-step : (i k : ℕ) → RecordOver bs (sizeOf bs) → k < 2 ^ 16 → entry i .side < 2 ^ 32 → entry i .row < 2 ^ 32 →
       ent 𝓤 (sep 𝓤 (A .lft κ q) (sem 𝓤 H A OwnR)) (Step 𝓤 H A mem run .pre (to-step i k))
-  asks-step i k long gk gs gr =
-      qed W (‵ (flft κ q) ∷ ‵ OwnR ∷ []) ∵ says ! long $ nothing ! $ move ! (1 ∷ 0 ∷ []) $ join ! $ frame ! $
+  asks-step i k whole-record gk gs gr =
+      qed W (‵ (flft κ q) ∷ ‵ OwnR ∷ []) ∵ says ! whole-record $ nothing ! $ move ! (1 ∷ 0 ∷ []) $ join ! $ frame ! $
       nothing ! $ owned ! u32 (Is u32) (uint-makes 𝓤 H A W w32) (entry i .row) _ (refl, gr) $ fjoin ! $
       owned ! u32 (Is u32) (uint-makes 𝓤 H A W w32) (entry i .side) _ (refl, gs) $ fjoin ! $
       owned ! u16 (Is u16) (uint-makes 𝓤 H A W w16) k _ (refl, gk) $ fjoin ! $
       move ! (1 ∷ 0 ∷ []) $ fjoin ! $ done !
 
   abbrev next-found : ℕ → ℕ → ℕ
-  next-found i k = orElse k (handRefusal (holdOf bs) (sizeOf bs) (hand (entry i .side) (entry i .row)))
+  next-found i k = orElse k (handRefusal bs (hand (entry i .side) (entry i .row)))
 
   says-step : (i k r : ℕ) →
       ent 𝓤 (ensured 𝓤 H A step.ended (step.clauses 𝓤 H A mem run) (κ, tt) (stepped i k) tt r) (fact 𝓤 (r ≡ next-found i k))
@@ -206,7 +207,7 @@ module _ {M : Type 1} (𝓤 : URA M) (H : Heap 𝓤) (A : Atoms 𝓤) (W : Given
   -- ---- where the turns stand: at entry i, with k found so far
 
   abbrev Facts : ℕ → ℕ → Type 0
-  Facts i k = (i ≤ n) × (k < 2 ^ 16) × Found handIn none ys (holdOf bs) (sizeOf bs) i k
+  Facts i k = (i ≤ n) × (k < 2 ^ 16) × Found handIn none ys bs i k
 
   abbrev Upto : Type 0
   Upto = (p : ℕ × ℕ) × Facts (p .0) (p .1)
@@ -271,13 +272,13 @@ module _ {M : Type 1} (𝓤 : URA M) (H : Heap 𝓤) (A : Atoms 𝓤) (W : Given
     next-fits j h = omega (arith, gn .0)
 
     module _ (k₀ : ℕ) (gated-by : k₀ ≡ first-found) (passed : k₀ ≡ 0) where
-      long : 8 ≤ m
-      long = long-enough bs (first-accepted bs handIn ys gated-by passed)
+      accepted : RecordOver bs (sizeOf bs)
+      accepted = over-its-leaves bs (first-accepted bs handIn ys gated-by passed)
 
       ends : (i : Upto) → n ≤ i .0 .0 → i .0 .1 ≡ handsRefusal bs (map handIn ys)
       ends i over =
-          second-number bs handIn ys gated-by passed refl
-          (found-end handIn none ys (holdOf bs) (sizeOf bs) (i .0 .0) (i .1 .2) over)
+          second-number bs handIn ys gated-by passed
+          (found-end handIn none ys bs (i .0 .0) (i .1 .2) over)
 
       turns : (i : Upto) → Sq W (At i) (runs C Λ En mir.turn-1 (anyQ (Turned i)))
       unfolding afterTurn
@@ -309,7 +310,7 @@ module _ {M : Type 1} (𝓤 : URA M) (H : Heap 𝓤) (A : Atoms 𝓤) (W : Given
           -- [the list's token; its borrow; res; its fact; the record's token; what it owns; _11; …]
           move ! (5 ∷ []) $ use1 W (‵ OwnR ⊛ ‵ OwnR) (shr-slice-copy 𝓤 H A W (named 0) κ u8 .twice rec (at .0)) $ split ! $
           move ! (6 ∷ 0 ∷ []) $ use2 W (raw (Step 𝓤 H A mem run .pre (to-step j k)))
-          (asks-step j k long (i .1 .1) (LL.owed T.the-type T′.the-laws (entry j) _ g .0 .1)
+          (asks-step j k accepted (i .1 .1) (LL.owed T.the-type T′.the-laws (entry j) _ g .0 .1)
           (LL.owed T.the-type T′.the-laws (entry j) _ g .1 .0 .1)) $
           -- [what is asked; what the record owns; the list's token; its borrow; res; its fact; _11; …]
           calls-at ! (fmOf 𝓤 H (W .laws) 𝓣) (Step 𝓤 H A mem run) known-step (to-step j k)
@@ -334,7 +335,7 @@ module _ {M : Type 1} (𝓤 : URA M) (H : Heap 𝓤) (A : Atoms 𝓤) (W : Given
             (
               add-one-le h,
               is .1,
-              found-more handIn none ys (holdOf bs) (sizeOf bs) j k h (i .1 .2) e,
+              found-more handIn none ys bs j k h (i .1 .2) e,
             ),
           ) (falls n j h))))))))
           (λ over. jumps ! $ exec ! C Λ En mir.t-7 (atRet En Post) $
@@ -367,7 +368,7 @@ module _ {M : Type 1} (𝓤 : URA M) (H : Heap 𝓤) (A : Atoms 𝓤) (W : Given
         (λ passed. skips ! $ exec ! C Λ En mir.t-5 (atRet En Post) $
         assigns ! (of-opd ! (lit ! tt)) (from ! (stop !)) (init ! 20 refl (tt, record { fits = lit< tt })) $
         forget ! 14 refl $ forget ! 16 refl $ first ! $ blocks ! $ loops ! 𝓣 Nearer Nearer-wf At (turns r e (is-none r passed))
-        ((0, r), (zero-le, g, found-start handIn none ys (holdOf bs) (sizeOf bs) (is-none r passed))))
+        ((0, r), (zero-le, g, found-start handIn none ys bs (is-none r passed))))
 
   walk : (𝓣 : Tables 𝓤 H) → Triple 𝓤 (𝓣 .C #gate) (Gate 𝓤 H A mem run) → Triple 𝓤 (𝓣 .C #step) (Step 𝓤 H A mem run) →
       Room u8 m → Room R n → ent 𝓤 (onEntry 𝓤 H A test.signature (κ, (κ′, tt)) (q, (q′, tt)) x at)

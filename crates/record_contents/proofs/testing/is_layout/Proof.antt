@@ -1,4 +1,4 @@
--- `is_layout` says whether each byte is 0 or 1: it has passed such bytes only, or met another.
+-- `is_layout` says whether no byte is above 3: it has passed such bytes only, or met one that is.
 use borrow.Author.Needs.{needs}
 use Prim.Native.Nat.{_-_, _≤_}
 use mathlib.Core.Path.{_≡_, sym}
