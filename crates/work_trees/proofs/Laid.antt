@@ -8,6 +8,7 @@ use mathlib.Core.List.{List, _++_}
 use native.Mathlib.Omega.{arith}
 use lib.ListN.{length, drop}
 use Rattle.tanglegram.specs.Tree.{Tree, leaves, tree}
+use Rattle.tanglegram.proofs.Bytes.{turned-flip}
 use Rattle.tanglegram.specs.Order.{byte, turned, flip, order}
 use Rattle.work_trees.specs.Rows.{upper, lower, size, objectOf, treeOf, GoodRows}
 use Rattle.work_trees.specs.Exchange.{exchanged, Exchanges, Laid, givenTree, LaidOut}
@@ -110,11 +111,11 @@ either-way : (g t : Bool) (x u l u′ l′ a b a′ b′ : ℕ) → turned x ≡
     Exchanges (turned (cond g (flip x) x)) u′ l′ a′ b′ → (a′ ≡ a) × (b′ ≡ b)
 either-way true true x u l u′ l′ a b a′ b′ h e f k =
     let m = rw h at f in
-    let n = rw h at k in
+    let n = rw (turned-flip x, h) at k in
     (n .0 ∙ e .0 ∙ sym (m .0), n .1 ∙ e .1 ∙ sym (m .1))
 either-way true false x u l u′ l′ a b a′ b′ h e f k =
     let m = rw h at f in
-    let n = rw h at k in
+    let n = rw (turned-flip x, h) at k in
     (n .0 ∙ e .1 ∙ sym (m .0), n .1 ∙ e .0 ∙ sym (m .1))
 either-way false t x u l u′ l′ a b a′ b′ h e f k = same t (rw h at f) (rw h at k)
   where

@@ -13,7 +13,10 @@ use crate::leaves::leaf_order;
 pub fn is_turned(x: u8) -> bool
     ensures { λ r. ⌜ r ≡ turned x ⌝ }
 {
-    x != 0 && x != 2
+    if x == 2 {
+        return false;
+    }
+    x != 0
 }
 
 // Whether a row with that byte may be turned over: it is not pinned.
