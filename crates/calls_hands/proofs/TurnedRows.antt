@@ -23,17 +23,18 @@ module _ (s : List ℕ) (n : ℕ) (g : RecordOver s n) (h : Hand) where
   -- the record is accepted again, over as many leaves
   turned-given : RecordOver (relaid s (handed (layoutsOf s) (h ∷ []))) n
   unfolding handed
-  turned-given = put-given s n g (sideOf (h .side)) (h .row) _ (flip-small _)
+  turned-given =
+      let x = rowByte s (sideOf (h .side)) (h .row) in
+      put-given s n g (sideOf (h .side)) (h .row) (flip x) (flip-small x)
 
   -- the other entries after it
   turned-rest : (hs : List Hand) → let after = relaid s (handed (layoutsOf s) (h ∷ [])) in
       relaid after (handed (layoutsOf after) hs) ≡ relaid s (handed (layoutsOf s) (h ∷ hs))
   unfolding handed
   turned-rest hs =
-      let x = flip (rowByte s (sideOf (h .side)) (h .row)) in
-      let small = flip-small (rowByte s (sideOf (h .side)) (h .row)) in
-      put-again s n g (sideOf (h .side)) (h .row) x small _
-      ∙ ap (λ at. relaid s (handed at hs)) (put-layouts s n g (sideOf (h .side)) (h .row) x small)
+      let x = rowByte s (sideOf (h .side)) (h .row) in
+      put-again s n g (sideOf (h .side)) (h .row) (flip x) (flip-small x) _
+      ∙ ap (λ at. relaid s (handed at hs)) (put-layouts s n g (sideOf (h .side)) (h .row) (flip x) (flip-small x))
 
 -- ---- a list, entry after entry: no entry that is left is bad, and what is left makes of the record what the whole list does
 

@@ -1,9 +1,7 @@
 -- `hands` meets its contract: the list's number and the record, then the entries, then the turning.
 use mathlib.Core.Path.{_≡_, sym, _∙_}
-use mathlib.Core.List.{map}
-use Rattle.record_fields.specs.Fields.{holdOf}
 use Rattle.record_fields.specs.Refusals.{refusal}
-use Rattle.calls_hands.specs.Refusals.{handOf, entriesRefusal}
+use Rattle.calls_hands.specs.Refusals.{handOf}
 use Rattle.record_arrays.proofs.AsItStands.{long-enough, over-n}
 use Rattle.calls_hands.proofs.HandLists.{first-accepted, first-own, first-refused, second-refused, second-accepted}
 use borrow.Author.Needs.{needs}
@@ -37,19 +35,8 @@ accepted c =
 size-of-requires : tie.Need-size-of-requires
 size-of-requires c κs = long-enough _ (accepted (c .before))
 
-hold-of-requires : tie.Need-hold-of-requires
-hold-of-requires c κs = long-enough _ (accepted (c .before .before .before))
-
 first-bad-requires : tie.Need-first-bad-requires
-first-bad-requires c κs = search needs
-
--- what was found of the entries, under the record's hold
-found : (c : tie.After-first-bad) → let q = c .before .before .before in
-    let a = q .before .before .before .before .before .before .before .args in
-    c .first-bad .result ≡ entriesRefusal (holdOf (a .s .now)) (q .size-of .result) (map handOf (a .list .now))
-found c =
-    let e = c .before .hold-of .ensures in
-    rw e at (c .first-bad .ensures)
+first-bad-requires c κs = over-n _ (accepted (c .before .before .before)) (c .before .size-of .ensures)
 
 refused-requires : tie.Need-refused-requires
 refused-requires c κs = search needs
@@ -60,17 +47,17 @@ same-length-2 c = search needs
 returns-2 : tie.Need-returns-2
 returns-2 c =
     let r = c .before in
-    let q = r .before .before .before .before in
+    let q = r .before .before .before in
     let p = q .before .before in
     let a = p .before .before .before .before .before .args in
-    second-refused (a .s .now) handOf (a .list .now) (p .before .list-number .ensures) (p .if1 .left) (q .size-of .ensures)
-    (found (r .before)) (r .if2 .taken) (c .refused .ensures)
+    second-refused (a .s .now) handOf (a .list .now) (p .before .list-number .ensures) (p .if1 .left)
+    (r .before .first-bad .ensures) (r .if2 .taken) (c .refused .ensures)
 
 turn-hands-requires : tie.Need-turn-hands-requires
 turn-hands-requires c κs =
     let r = c .before in
-    let q = r .before .before .before .before in
-    (over-n _ (accepted (q .before .before)) (q .size-of .ensures), sym (found (r .before)) ∙ r .if2 .left)
+    let q = r .before .before .before in
+    (over-n _ (accepted (q .before .before)) (q .size-of .ensures), sym (r .before .first-bad .ensures) ∙ r .if2 .left)
 
 refused-requires-2 : tie.Need-refused-requires-2
 refused-requires-2 c κs = search needs
@@ -82,11 +69,11 @@ returns-3 : tie.Need-returns-3
 returns-3 c =
     let t = c .before .before .before in
     let r = t .before .before in
-    let q = r .before .before .before .before in
+    let q = r .before .before .before in
     let p = q .before .before in
     let a = p .before .before .before .before .before .args in
-    second-accepted (a .s .now) handOf (a .list .now) (p .before .list-number .ensures) (p .if1 .left) (q .size-of .ensures)
-    (found (r .before)) (r .if2 .left) (c .refused2 .ensures) (t .turn-hands .ensures)
+    second-accepted (a .s .now) handOf (a .list .now) (p .before .list-number .ensures) (p .if1 .left)
+    (r .before .first-bad .ensures) (r .if2 .left) (c .refused2 .ensures) (t .turn-hands .ensures)
 
 pub hands-spec : {M : Type 1} → statement M
 hands-spec =
@@ -97,7 +84,6 @@ hands-spec =
     same-length
     returns
     size-of-requires
-    hold-of-requires
     first-bad-requires
     refused-requires
     same-length-2

@@ -3,24 +3,23 @@ use Prim.Native.Nat.{_-_}
 use mathlib.Core.Path.{sym, ap₂, _∙_}
 use mathlib.Core.List.{[], _∷_, map}
 use lib.ListN.{length, drop}
-use Rattle.record_fields.specs.Fields.{holdOf}
 use Rattle.record_fields.specs.Meaning.{layoutsOf, relaid}
 use Rattle.calls_hands.specs.Refusals.{hand, handOf}
 use Rattle.calls_hands.specs.Calls.{handed}
 use Rattle.calls_hands.proofs.HandLists.{rest-cons, rest-none}
-use Rattle.calls_hands.proofs.TurnedRows.{HandsUnderWay, turning-start, turning-good, turning-more, turning-end}
+use Rattle.calls_hands.proofs.TurnedRows.{HandsUnderWay, turning-start, turning-row, turning-more, turning-end}
 use borrow.Author.Needs.{needs}
 use Rattle.calls_hands.proofs.handing.turn_hands.Statement.{statement}
 use Rattle.calls_hands.proofs.handing.turn_hands.Tie as tie
 
 abbrev Inv-loop : tie.InvT-loop
-Inv-loop s₀ n list i₀ s i = HandsUnderWay (holdOf s₀) n s₀ (map handOf list) (map handOf (drop i list)) s
+Inv-loop s₀ n list i₀ s i = HandsUnderWay n s₀ (map handOf list) (map handOf (drop i list)) s
 
 abbrev μ-loop : tie.MeasureT-loop
 μ-loop s₀ n list i₀ s i = length list - i
 
 loop-holds : tie.Need-loop-holds Inv-loop μ-loop
-loop-holds c = turning-start _ _ _ _ (c .before .before .pre .0) (c .before .before .pre .1)
+loop-holds c = turning-start _ _ _ (c .before .before .pre .0) (c .before .before .pre .1)
 
 mul-x : tie.Need-mul-x Inv-loop μ-loop
 mul-x c = search needs
@@ -39,9 +38,9 @@ turn-hand-requires c κs =
     let q = c .before .before .before .before in
     let l = q .before .loop in
     let a = q .before .before .before .before .args in
-    let h = turning-good _ _ _ _ (l .inv) (rest-cons handOf 0 (a .list .now) (l .i) (q .loop-test .taken)) in
+    let h = turning-row _ _ _ (l .inv) (rest-cons handOf 0 (a .list .now) (l .i) (q .loop-test .taken)) in
     let e = c .row-in .ensures in
-    (l .inv .over-n, (rw e (h .some), rw e (h .below)))
+    (l .inv .over-n, (rw e (h .0), rw e (h .1)))
 
 add-i : tie.Need-add-i Inv-loop μ-loop
 add-i c = search needs
@@ -58,7 +57,7 @@ loop-again c =
     let cut = rest-cons handOf 0 (a .list .now) (l .i) (q .loop-test .taken) in
     let same = ap₂ (λ side row. relaid (l .s) (handed (layoutsOf (l .s)) (hand side row ∷ [])))
     (p .before .before .side-in .ensures) (p .before .row-in .ensures) in
-    turning-more _ _ _ _ (l .inv) cut (p .turn-hand .ensures ∙ same)
+    turning-more _ _ _ (l .inv) cut (p .turn-hand .ensures ∙ same)
 
 same-length : tie.Need-same-length Inv-loop μ-loop
 same-length c =
@@ -68,7 +67,7 @@ returns : tie.Need-returns Inv-loop μ-loop
 returns c =
     let l = c .before .loop in
     let a = c .before .before .before .before .args in
-    turning-end _ _ _ _ (l .inv) (rest-none handOf 0 (a .list .now) (l .i) (c .loop-test .left))
+    turning-end _ _ _ (l .inv) (rest-none handOf 0 (a .list .now) (l .i) (c .loop-test .left))
 
 pub turn-hands-spec : {M : Type 1} → statement M
 turn-hands-spec =
