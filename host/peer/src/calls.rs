@@ -148,8 +148,9 @@ fn any_buffer(wanted: usize, random: &mut Random) -> Vec<u16> {
 fn rows_for_hands(made: &Made, sides: &[u16], random: &mut Random) -> Vec<(u16, u16)> {
     let rows = 1..=(made.n - 1).max(1);
     let all: Vec<(u16, u16)> = rows.flat_map(|row| sides.iter().map(move |&side| (side, row))).collect();
+    let is_pinned = |side, row: u16| made.layout(side).get(row as usize - 1).is_some_and(|&byte| byte >= 2);
     let mut unpinned = all.clone();
-    unpinned.retain(|&(side, row)| !made.layout(side).get(row as usize - 1).is_some_and(|&byte| byte >= 2));
+    unpinned.retain(|&(side, row)| !is_pinned(side, row));
     if unpinned.is_empty() || random.chance(200) {
         all
     } else {
