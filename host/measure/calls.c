@@ -1,8 +1,9 @@
 /* Peak stack of every call (tangle.h) on records, texts and merge tables of 512 leaves, by a painted stack. A line for
- * each call and record: call, left tree, right tree, layout bytes (0, 1, or 2 for mixed), bytes. For reading a text or
- * a table: call, tree, what the text or the table is, a dash, bytes. The bytes include the few that the harness takes
- * to hand the arguments over. Ends with 1 if a call refuses a good record, text or table or accepts one that is bad, if
- * an order, a text, a table or the rows of one are not those expected, or if two calls that must agree do not. */
+ * each call and record: call, left tree, right tree, layout bytes (0, 1, 2 for mixed, or 3 for mixed with pins), bytes.
+ * For reading a text or a table: call, tree, what the text or the table is, a dash, bytes. The bytes include the few
+ * that the harness takes to hand the arguments over. Ends with 1 if a call refuses a good record, text or table or
+ * accepts one that is bad, if an order, a text, a table, the rows of one or a pinned record are not those expected, or
+ * if two calls that must agree do not. */
 #include <stdio.h>
 
 #include "../viewer/tangle.h"
@@ -11,6 +12,10 @@
 
 enum { N = TANGLE_MOST_LEAVES, ROWS = N - 1, BYTES = TANGLE_MOST_BYTES, ENTRIES = TANGLE_MOST_HANDS };
 enum { TEXT = TANGLE_MOST_TEXT, LONG_TEXT = 1 << 20 };
+
+/* Layout bytes: all 0, all 1, either of the two at random, or any of the four, where rows 1, 5, 9 and so on of both
+ * sides are not pinned. */
+enum { AS_GIVEN, TURNED, MIXED, WITH_PINS, UNPINNED = 4 };
 
 static uint8_t made[BYTES], s[BYTES], packed[BYTES], left_layout[ROWS], right_layout[ROWS];
 static uint16_t out[N], first[N], second[N], left[2 * ROWS], right[2 * ROWS], links[N];
@@ -43,6 +48,8 @@ static void hold(void) { found.refusal = tangle_hold(s, BYTES, TANGLE_HOLD_BOTH)
 static void order_left(void) { found.refusal = tangle_order(s, BYTES, TANGLE_LEFT, out, N).refusal; }
 static void order_right(void) { found.refusal = tangle_order(s, BYTES, TANGLE_RIGHT, out, N).refusal; }
 static void hands(void) { found.refusal = tangle_hands(s, BYTES, list, ENTRIES).refusal; }
+static void pin_left(void) { found.refusal = tangle_pin(s, BYTES, TANGLE_LEFT, ROWS, 1).refusal; }
+static void pin_right(void) { found.refusal = tangle_pin(s, BYTES, TANGLE_RIGHT, ROWS, 1).refusal; }
 
 static void count(void) {
     found.count = tangle_count(s, BYTES);
@@ -153,6 +160,8 @@ static const struct {
     {"free", free_right, TANGLE_RIGHT},
     {"run", run, 0},
     {"hands", hands, 0},
+    {"pin", pin_left, TANGLE_LEFT},
+    {"pin", pin_right, TANGLE_RIGHT},
     {"better", better_left, TANGLE_LEFT},
     {"better", better_right, TANGLE_RIGHT},
     {"better_check", better_check_left, TANGLE_LEFT},
@@ -170,7 +179,12 @@ static void put(size_t at, uint16_t x) {
     made[at + 1] = (uint8_t)(x & 255);
 }
 
-/* A record of these trees with shuffled links, no side held, and the layout bytes 0, 1, or 2 for either at random. */
+static uint8_t layout_byte(uint8_t layout, size_t row) {
+    if (layout < MIXED) return layout;
+    return (uint8_t)below(layout == MIXED || row % UNPINNED == 1 ? 2 : 4);
+}
+
+/* A record of these trees with shuffled links, no side held, and such layout bytes; and a hand list for it. */
 static void make(rows_t *left_rows, rows_t *right_rows, uint8_t layout) {
     static const uint8_t opening[6] = {'T', 'G', 'P', 0, 1, 'N'};
     memcpy(made, opening, sizeof opening);
@@ -186,9 +200,10 @@ static void make(rows_t *left_rows, rows_t *right_rows, uint8_t layout) {
     for (size_t i = 0; i < 2 * ROWS; i++) put(8 + 2 * i, left[i]);
     for (size_t i = 0; i < 2 * ROWS; i++) put(8 + 4 * ROWS + 2 * i, right[i]);
     for (size_t i = 0; i < N; i++) put(8 + 8 * ROWS + 2 * i, links[i]);
-    for (size_t i = 0; i < 2 * ROWS; i++) made[8 + 8 * ROWS + 2 * N + i] = layout == 2 ? (uint8_t)below(2) : layout;
+    for (size_t i = 0; i < 2 * ROWS; i++) made[8 + 8 * ROWS + 2 * N + i] = layout_byte(layout, 1 + i % ROWS);
+    uint16_t step = layout == WITH_PINS ? UNPINNED : 1;
     for (uint16_t i = 0; i < ENTRIES; i++)
-        list[i] = (struct tangle_entry){(uint16_t)(1 + i % 2), (uint16_t)(1 + i % ROWS)};
+        list[i] = (struct tangle_entry){(uint16_t)(1 + i % 2), (uint16_t)(1 + i % (ROWS / step) * step)};
 }
 
 static void restore(void) { memcpy(s, made, BYTES); }
@@ -215,7 +230,7 @@ static int in_words(uint32_t side) {
     static char expected[TEXT + 1];
     uint16_t turned[2 * ROWS];
     const uint8_t *layout = made + 10 * N + (side == TANGLE_LEFT ? 0 : ROWS);
-    for (size_t i = 0; i < 2 * ROWS; i++) turned[i] = (side == TANGLE_LEFT ? left : right)[i ^ layout[i / 2]];
+    for (size_t i = 0; i < 2 * ROWS; i++) turned[i] = (side == TANGLE_LEFT ? left : right)[i ^ (layout[i / 2] & 1)];
     strcpy(spell(expected, turned, N, 2 * N - 1, 0), ";");
     return found.wrote.length == TEXT && memcmp(written, expected, TEXT) == 0;
 }
@@ -225,6 +240,17 @@ static int in_signs(uint32_t side) {
     int32_t expected[2 * ROWS];
     put_signs(expected, side == TANGLE_LEFT ? left : right, N);
     return memcmp(written_table, expected, sizeof expected) == 0;
+}
+
+/* Whether the record, with the side's last row pinned, differs from the one made by that alone. */
+static int in_place(uint32_t side) {
+    uint8_t expected[BYTES];
+    size_t last = 10 * N + (side == TANGLE_LEFT ? 1 : 2) * ROWS - 1;
+    memcpy(expected, made, BYTES);
+    expected[last] = (uint8_t)(expected[last] | 2);
+    restore();
+    tangle_pin(s, BYTES, side, ROWS, 1);
+    return memcmp(s, expected, BYTES) == 0;
 }
 
 /* Whether the thousandths found are the root of the ratio found: k fits, and k + 1 does not. */
@@ -262,8 +288,9 @@ static int measure(size_t on_left, size_t on_right, uint8_t layout) {
         size_t bytes = bytes_of(calls[i].job);
         printf("%s %s %zu\n", calls[i].name, name, bytes);
         int answered = found.refusal == 0;
-        if (strcmp(calls[i].name, "order") == 0 && direction != 0 && layout != 2)
-            answered &= in_order((direction < 0) != (layout == 1));
+        if (strcmp(calls[i].name, "order") == 0 && direction != 0 && layout < MIXED)
+            answered &= in_order((direction < 0) != (layout == TURNED));
+        if (strcmp(calls[i].name, "pin") == 0) answered &= in_place(calls[i].side);
         if (strcmp(calls[i].name, "newick_write") == 0) answered &= in_words(calls[i].side);
         if (strcmp(calls[i].name, "merge_write") == 0) answered &= in_signs(calls[i].side);
         if (!answered) fprintf(stderr, "%s, %s: refused, or another answer\n", calls[i].name, name);
@@ -277,7 +304,7 @@ static int measure(size_t on_left, size_t on_right, uint8_t layout) {
 static int measure_bad_row(uint32_t side) {
     uint32_t expected = side == TANGLE_LEFT ? TANGLE_LEFT_ROW : TANGLE_RIGHT_ROW;
     int good = 1;
-    make(balanced, balanced, 0);
+    make(balanced, balanced, AS_GIVEN);
     (side == TANGLE_LEFT ? left : right)[2 * ROWS - 2] = 0;
     put(side == TANGLE_LEFT ? 4 + 4 * ROWS : 4 + 8 * ROWS, 0);
     for (size_t i = 0; i < sizeof calls / sizeof *calls; i++) {
@@ -381,7 +408,7 @@ static int measure_tables(size_t shape) {
 int main(void) {
     int good = 1;
     for (size_t i = 0; i < 16; i++)
-        for (uint8_t layout = 0; layout <= 2; layout++) good &= measure(i / 4, i % 4, layout);
+        for (uint8_t layout = AS_GIVEN; layout <= WITH_PINS; layout++) good &= measure(i / 4, i % 4, layout);
     good &= measure_bad_row(TANGLE_LEFT) & measure_bad_row(TANGLE_RIGHT);
     for (size_t i = 0; i < 3; i++) good &= measure_reading(i); /* all but the random one, whose depth is no limit */
     for (size_t i = 0; i < 4; i++) good &= measure_tables(i);

@@ -1,7 +1,7 @@
 #!/usr/bin/env bash
-# Compares sheet with the peer's sheet: records of all shapes and sizes, each hold, the first or the last row of a side
-# bad, cut short, too long, empty, damaged, and given in pieces; and both sides of limits of a thousandth. Ends with 1 at
-# the first difference.
+# Compares sheet with the peer's sheet: records of all shapes and sizes, each hold, some rows pinned and all of them,
+# the first or the last row of a side bad, cut short, too long, empty, damaged, and given in pieces; and both sides of
+# limits of a thousandth and of a layout byte. Ends with 1 at the first difference.
 . "$(dirname "$0")/../programs.sh"
 build
 records=0
@@ -19,6 +19,11 @@ with() {
   { head -c 5 "$file"; printf '%s' "$1"; tail -c +7 "$file"; } > "$file.hold"
 }
 
+# ends BYTE: the record in $file with another last layout byte.
+ends() {
+  { head -c -1 "$file"; printf '%b' "$1"; } > "$file.byte"
+}
+
 # bad AT REFUSAL: the record in $file with a 0 as the upper child of the row at byte AT; what both print of it.
 bad() {
   { head -c "$1" "$file"; printf '\0\0'; tail -c "+$(($1 + 3))" "$file"; } > "$file.bad"
@@ -32,6 +37,7 @@ for n in 1 2 3 4 8 64 511 512; do
     "$peer" record "$shape" "$n" "$n" > "$file"
     same "$file"
     for hold in L R B M; do with "$hold"; same "$file.hold"; done
+    for step in 1 2 3; do "$peer" pinned "$shape" "$n" "$n" "$step" > "$file.pinned"; same "$file.pinned"; done
     head -c $((12 * n - 3)) "$file" > "$file.short"; same "$file.short"
     { cat "$file"; printf 'x'; } > "$file.long"; same "$file.long"
     for row in 1 $((n - 1)); do
@@ -39,6 +45,10 @@ for n in 1 2 3 4 8 64 511 512; do
       bad $((4 * row + 4)) "7 $row"
       bad $((4 * n + 4 * row)) "8 $row"
     done
+    [ "$n" -gt 1 ] || continue
+    ends '\3'; same "$file.byte"
+    ends '\4'; same "$file.byte"
+    [ "$(cat "$out/sheet.got")" = "REFUSED 10" ] || { echo "not refused 10: $file.byte"; exit 1; }
   done
 done
 cp crates/sheet/stdin "$file"
@@ -72,6 +82,20 @@ done <<'END'
 512 46 44739072 1
 512 44739070 44739072 999
 512 44739072 44739072 1000
+END
+
+# The example with its left root pinned as given: the lines are given here, and must be those printed.
+{ head -c 42 crates/sheet/stdin; printf '\2'; tail -c +44 crates/sheet/stdin; } > "$file"
+same "$file"
+cmp "$out/sheet.got" - <<'END'
+TGP 1 N 4
+L 4 3 1 2
+R 1 2 3 4
+X 5
+E 18 20 948
+T 3 S 2
+L 4 1 2 3
+R 1 2 4 3
 END
 
 # A pipe gives the input in pieces.

@@ -1,4 +1,4 @@
-/* The comparison table's calls for C: all eighteen (crates/tangle, target/staticlib/libtangle.a, which `rt staticlib
+/* The comparison table's calls for C: all nineteen (crates/tangle, target/staticlib/libtangle.a, which `rt staticlib
  * tangle` writes).
  *
  * Memory is lent for the length of a call, as a pointer and how many bytes, places or entries are there; any bytes and
@@ -13,8 +13,8 @@
  * byte. docs/CALLS.md explains the words used here, docs/RECORD.md the record's bytes, docs/NEWICK.md the texts,
  * docs/MERGE.md the merge tables, and docs/ENTANGLEMENT.md the two entanglements.
  *
- * Sides, letters, n and allowances are 32 bits wide, and each is tested as it is: side 257 and side 65,537 are refused,
- * and so is n = 65,540.
+ * Sides, rows, letters, n and allowances are 32 bits wide, and each is tested as it is: side 257, side 65,537 and row
+ * 65,537 are refused, and so is n = 65,540.
  *
  * The archive is x86-64 code.
  */
@@ -41,7 +41,7 @@ enum tangle_number {
     TANGLE_LEFT_ROW = 7,   /* a left row breaks the tree rule; the lowest that does is told beside it */
     TANGLE_RIGHT_ROW = 8,  /* a right row breaks the tree rule; likewise */
     TANGLE_LINKS = 9,      /* the links aren't one-to-one on 1 to n */
-    TANGLE_LAYOUT = 10,    /* a layout byte isn't 0 or 1 */
+    TANGLE_LAYOUT = 10,    /* a layout byte is above 3 */
     TANGLE_HELD = 11,      /* the call frees a held side, runs while a side is held, or has a hand entry for a held
                               side, even if no byte would end up different */
     TANGLE_ALLOWANCE = 12, /* the allowance is 0 or above 130,818 */
@@ -53,7 +53,8 @@ enum tangle_number {
     TANGLE_GRAMMAR = 18,   /* a text breaks the grammar of docs/NEWICK.md */
     TANGLE_LEAVES = 19,    /* a text's leaves aren't 1 to n once each, or n is above 512 */
     TANGLE_ENTRY = 20,     /* an entry of a merge table is zero, or names no leaf, or no earlier row */
-    TANGLE_TWICE = 21      /* an entry of a merge table is used twice */
+    TANGLE_TWICE = 21,     /* an entry of a merge table is used twice */
+    TANGLE_PINNED = 22     /* a hand list names a pinned row */
 };
 
 enum tangle_side { TANGLE_LEFT = 1, TANGLE_RIGHT = 2 };
@@ -187,31 +188,41 @@ struct tangle_squared_entanglement tangle_squared_entanglement(const uint8_t *re
  * Refused: 1 to 10. */
 struct tangle_thousandths tangle_thousandths(const uint8_t *record, size_t length);
 
-/* ---- calls that change the lent record */
+/* ---- calls that change the lent record
+ *
+ * A layout byte is 0 for a row as given and 1 for one that is turned over, or 2 and 3 for the same where the row is
+ * pinned. Freeing, runs and hand lists never change a pinned row's byte. Orders, and whatever is counted, measured or
+ * written by them, read 2 as 0 and 3 as 1. */
 
 /* Sets the hold: byte 5 becomes the letter, and no other byte changes.
  * Refused: 4 if the letter isn't one of the four, then 1 to 10. */
 struct tangle_refusal tangle_hold(uint8_t *record, size_t length, uint32_t letter);
 
-/* Frees a side: turns each of its rows exactly if that makes the row's own crossings strictly fewer, the other side
- * standing as it is. Changes that side's layout bytes.
+/* Pins a row, or unpins it if `pin` is 0, and keeps its turning: pinning makes a layout byte of 0 into 2 and one of 1
+ * into 3, unpinning makes 2 into 0 and 3 into 1. A row that is so already stays as it is, and no other byte changes. A
+ * hold is no matter.
+ * Refused: 13, then 1 to 10, then 15. */
+struct tangle_refusal tangle_pin(uint8_t *record, size_t length, uint32_t side, uint32_t row, uint32_t pin);
+
+/* Frees a side: turns each of its rows exactly if it is not pinned and that makes the row's own crossings strictly
+ * fewer, the other side standing as it is. Changes that side's layout bytes.
  * Refused: 13, then 1 to 10, then 11 if that side is held. */
 struct tangle_free tangle_free(uint8_t *record, size_t length, uint32_t side);
 
 /* Frees the left, the right and so on, until a turn other than the first gains nothing (settled), or the allowance of
- * turns is used up. Changes layout bytes of both sides.
+ * turns is used up. A pinned row is never turned. Changes layout bytes of both sides.
  * Refused: 12, then 1 to 10, then 11 if a side is held. */
 struct tangle_run tangle_run(uint8_t *record, size_t length, uint32_t allowance);
 
 /* Turns one row over for each entry, entry after entry. Reads the list, of that many entries, and changes layout bytes
  * of the sides that it names. An empty list is accepted whatever is held.
- * Refused: 17, then 1 to 10, then by the first bad entry: 13, 15, 11 if its side is held. */
+ * Refused: 17, then 1 to 10, then by the first bad entry: 13, 15, 11 if its side is held, 22 if its row is pinned. */
 struct tangle_refusal tangle_hands(uint8_t *record, size_t length, const struct tangle_entry *list, size_t entries);
 
 /* ---- calls on two orders proposed for a side; they only read */
 
 /* Which of the two crosses less against the other side's present order, the first on a tie. Of each order the first n
- * entries are looked at, and those beyond are not.
+ * entries are looked at, and those beyond are not. Pins and a hold are no matter.
  * Refused: 13, then 1 to 10, then 16 for the first order, then 16 for the second. */
 struct tangle_better tangle_better(const uint8_t *record, size_t length, uint32_t side, const uint16_t *first,
                                    size_t first_entries, const uint16_t *second, size_t second_entries);
@@ -225,7 +236,7 @@ struct tangle_refusal tangle_better_check(const uint8_t *record, size_t length, 
  *
  * The parts of a record over n leaves are 2(n-1) numbers for the rows of the left and as many for those of the right,
  * upper then lower, row after row; n links, the right leaf of left leaf 1, 2 and so on; and n-1 layout bytes for each
- * side. */
+ * side, of 0 to 3 each. */
 
 /* Makes a record of its parts: writes 12n-2 bytes to the first places of the buffer, and nothing beyond them.
  * TANGLE_MOST_BYTES places are enough for any parts.
@@ -254,8 +265,8 @@ struct tangle_unpack tangle_unpack(const uint8_t *record, size_t length, uint16_
 struct tangle_newick_read tangle_newick_read(const uint8_t *text, size_t length, uint16_t *rows, size_t places);
 
 /* Writes a side's present layout as a text without lengths, which ends with its semicolon: answers how many bytes it
- * has, and writes them to the first of the buffer's places, and nothing beyond them. Reads the record; a hold is no
- * matter. TANGLE_MOST_TEXT places are enough for any record.
+ * has, and writes them to the first of the buffer's places, and nothing beyond them. Reads the record; pins don't show,
+ * and a hold is no matter. TANGLE_MOST_TEXT places are enough for any record.
  * Refused: 13, then 1 to 10, then 14 if there are fewer places than the text has bytes. */
 struct tangle_newick_write tangle_newick_write(const uint8_t *record, size_t length, uint32_t side, uint8_t *text,
                                                size_t places);

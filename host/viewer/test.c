@@ -1,4 +1,4 @@
-/* Checks the eighteen calls for C against docs/CALLS.md, docs/NEWICK.md and docs/MERGE.md: their examples, every
+/* Checks the nineteen calls for C against docs/CALLS.md, docs/NEWICK.md and docs/MERGE.md: their examples, every
  * refusal, in the order of tests, the row beside 7 and 8 and none beside another number, numbers wider than 8 and 16
  * bits, that a refused call changes no byte, and that none writes beyond what it was lent. Numbers are literals, the
  * customer's or worked out by hand. Prints each check that failed; ends with 0 only if none did.
@@ -32,7 +32,7 @@ _Static_assert(TANGLE_RIGHT_ROW == 8 && TANGLE_LINKS == 9 && TANGLE_LAYOUT == 10
 _Static_assert(TANGLE_HELD == 11 && TANGLE_ALLOWANCE == 12 && TANGLE_SIDE == 13, "docs/CALLS.md");
 _Static_assert(TANGLE_ROOM == 14 && TANGLE_ROW == 15 && TANGLE_ORDER == 16 && TANGLE_HANDS == 17, "docs/CALLS.md");
 _Static_assert(TANGLE_GRAMMAR == 18 && TANGLE_LEAVES == 19, "docs/CALLS.md");
-_Static_assert(TANGLE_ENTRY == 20 && TANGLE_TWICE == 21, "docs/CALLS.md");
+_Static_assert(TANGLE_ENTRY == 20 && TANGLE_TWICE == 21 && TANGLE_PINNED == 22, "docs/CALLS.md");
 _Static_assert(TANGLE_LEFT == 1 && TANGLE_RIGHT == 2 && TANGLE_FIRST == 1 && TANGLE_SECOND == 2, "docs/CALLS.md");
 _Static_assert(TANGLE_HOLD_NONE == 78 && TANGLE_HOLD_LEFT == 76, "ASCII");
 _Static_assert(TANGLE_HOLD_RIGHT == 82 && TANGLE_HOLD_BOTH == 66, "ASCII");
@@ -332,6 +332,41 @@ static void hand(int line, uint32_t side, uint32_t row, uint32_t refusal)
     hands(line, 1, refusal);
 }
 
+/* Where a row's layout byte stands in a record over n leaves. */
+static uint8_t *layout_byte(struct record *of, uint32_t side, size_t row)
+{
+    uint8_t *s = of->room + FENCE;
+    size_t n = s[6] * 256u + s[7];
+
+    return s + 10 * n + (side == TANGLE_LEFT ? 0 : n - 1) + row - 1;
+}
+
+/* Pins or unpins a row, whose byte then is this one; no other byte changes. */
+static void pin(int line, uint32_t side, uint32_t row, uint32_t flag, uint8_t byte)
+{
+    struct tangle_refusal p;
+
+    kept = r;
+    p = tangle_pin(bytes(), r.length, side, row, flag);
+    told(line, p.refusal, p.row, 0);
+    *layout_byte(&kept, side, row) = byte;
+    same_bytes(line, &kept);
+}
+
+/* Whether pinned or unpinned, by any number that says so. */
+static void pin_refused(int line, uint32_t side, uint32_t row, uint32_t refusal)
+{
+    static const uint32_t flags[] = {0, 1, 2, 256, 65536, UINT32_MAX};
+
+    kept = r;
+    for (size_t i = 0; i < sizeof flags / sizeof *flags; i++) {
+        struct tangle_refusal p = tangle_pin(bytes(), r.length, side, row, flags[i]);
+
+        told(line, p.refusal, p.row, refusal);
+        same_bytes(line, &kept);
+    }
+}
+
 /* ---- parts of a record */
 
 struct parts {
@@ -510,6 +545,8 @@ static void refused(int line, uint32_t number)
     free_side(line, TANGLE_LEFT, number, 0, 0);
     run(line, 2, number, 0, 0, 0, 0);
     hands(line, 0, number);
+    pin_refused(line, TANGLE_LEFT, 1, number);
+    pin_refused(line, TANGLE_RIGHT, 0, number);
     write_text(line, TANGLE_LEFT, MOST, number, "");
     write_text(line, TANGLE_RIGHT, 0, number, "");
     write_refused(line, TANGLE_LEFT, MOST_PLACES, number);
@@ -833,7 +870,7 @@ static void records_refused(void)
     record('N', 4, caterpillar, balanced, above);
     refused(__LINE__, 9);
     case2('N');
-    bytes()[40] = 2;
+    bytes()[40] = 4;
     refused(__LINE__, 10);
     case2('B');
     bytes()[45] = 255;
@@ -877,7 +914,7 @@ static void rows_refused(void)
     case2('B');
     set_upper(TANGLE_RIGHT, 3, 1);
     bytes()[32] = 9; /* a link */
-    bytes()[45] = 2; /* a layout byte */
+    bytes()[45] = 4; /* a layout byte */
     refused_row(__LINE__, 8, 3);
     set_upper(TANGLE_RIGHT, 2, 6);
     refused_row(__LINE__, 8, 2);
@@ -942,6 +979,7 @@ static void longer_than_16_bits(void)
     check(__LINE__, "check's refusal", tangle_check(s, sizeof s).refusal, 6);
     check(__LINE__, "an order's refusal", tangle_order(s, sizeof s, TANGLE_LEFT, four, 4).refusal, 6);
     check(__LINE__, "a hold's refusal", tangle_hold(s, sizeof s, TANGLE_HOLD_LEFT).refusal, 6);
+    check(__LINE__, "a pin's refusal", tangle_pin(s, sizeof s, TANGLE_LEFT, 1, 1).refusal, 6);
     check(__LINE__, "better's refusal", tangle_better(s, sizeof s, TANGLE_LEFT, four, 4, four, 4).refusal, 6);
     check(__LINE__, "its check's", tangle_better_check(s, sizeof s, TANGLE_LEFT, four, 4, four, 4).refusal, 6);
     check(__LINE__, "count's refusal", tangle_count(s, sizeof s).refusal, 6);
@@ -1081,9 +1119,260 @@ static void better_of_two(void)
     better(__LINE__, TANGLE_LEFT, "0000", "1234", 16, 0);
     better(__LINE__, 0, "1324", "", 13, 0);
     better(__LINE__, 3, "1234", "1234", 13, 0);
-    bytes()[45] = 2; /* 13, then the record, then 16 */
+    bytes()[45] = 4; /* 13, then the record, then 16 */
     better(__LINE__, 3, "1324", "", 13, 0);
     better(__LINE__, TANGLE_LEFT, "1324", "", 10, 0);
+}
+
+/* ---- pinned rows */
+
+/* Case 2 with these layout bytes, the left's and then the right's. */
+static void laid(char hold, const char *digits)
+{
+    case2(hold);
+    for (size_t i = 0; i < 6; i++)
+        bytes()[40 + i] = (uint8_t)(digits[i] - '0');
+}
+
+/* Each of the four bytes in each row, pinned and unpinned, whatever is held; a number other than 0 pins. */
+static void pins_set(void)
+{
+    static const char holds[] = {'N', 'L', 'R', 'B'};
+    static const uint32_t pins[] = {1, 2, 3, 256, 65536, 0x80000000, UINT32_MAX};
+    static const uint8_t pinned[] = {2, 3, 2, 3}, unpinned[] = {0, 1, 0, 1};
+
+    for (size_t i = 0; i < sizeof holds; i++)
+        for (uint8_t byte = 0; byte < 4; byte++)
+            for (uint32_t side = TANGLE_LEFT; side <= TANGLE_RIGHT; side++)
+                for (uint32_t row = 1; row <= 3; row++) {
+                    laid(holds[i], "012310");
+                    *layout_byte(&r, side, row) = byte;
+                    pin(__LINE__, side, row, 0, unpinned[byte]);
+                    pin(__LINE__, side, row, 0, unpinned[byte]);
+                    for (size_t k = 0; k < sizeof pins / sizeof *pins; k++) {
+                        *layout_byte(&r, side, row) = byte;
+                        pin(__LINE__, side, row, pins[k], pinned[byte]);
+                        pin(__LINE__, side, row, pins[k], pinned[byte]);
+                    }
+                    checked(__LINE__, 0);
+                }
+    deep(512, 1);
+    pin(__LINE__, TANGLE_LEFT, 1, 1, 2);
+    pin(__LINE__, TANGLE_LEFT, 511, 1, 2);
+    pin(__LINE__, TANGLE_RIGHT, 1, 1, 2);
+    pin(__LINE__, TANGLE_RIGHT, 511, 1, 2);
+    pin(__LINE__, TANGLE_LEFT, 511, 0, 0);
+    count(__LINE__, 0, 130816);
+}
+
+/* The side, then the record, then the row; never 11, never 22. */
+static void pins_refused(void)
+{
+    static const uint32_t no_row[] = {0, 4, 5, 255, 256, 257, 65535, 65536, 65537, 0x80000001, UINT32_MAX};
+    static const uint32_t no_side[] = {0, 3, 256, 257, 258, 65535, 65537, 65538, 0x80000002, UINT32_MAX};
+    static const uint16_t pair[] = {1, 2};
+
+    laid('B', "012301");
+    for (size_t i = 0; i < sizeof no_row / sizeof *no_row; i++) {
+        pin_refused(__LINE__, TANGLE_LEFT, no_row[i], 15);
+        pin_refused(__LINE__, TANGLE_RIGHT, no_row[i], 15);
+    }
+    for (size_t i = 0; i < sizeof no_side / sizeof *no_side; i++) {
+        pin_refused(__LINE__, no_side[i], 1, 13);
+        pin_refused(__LINE__, no_side[i], 0, 13);
+        pin_refused(__LINE__, no_side[i], UINT32_MAX, 13);
+    }
+    bytes()[45] = 4;
+    pin_refused(__LINE__, 3, 0, 13);
+    pin_refused(__LINE__, TANGLE_LEFT, 0, 10);
+    pin_refused(__LINE__, TANGLE_RIGHT, 3, 10);
+    set_upper(TANGLE_RIGHT, 2, 0);
+    bad_row = 2;
+    pin_refused(__LINE__, 0, 1, 13);
+    pin_refused(__LINE__, TANGLE_LEFT, 4, 8);
+    set_upper(TANGLE_LEFT, 3, 0);
+    bad_row = 3;
+    pin_refused(__LINE__, TANGLE_RIGHT, 1, 7);
+    r.length = 7;
+    pin_refused(__LINE__, TANGLE_RIGHT, 65537, 1);
+    record('N', 1, NULL, NULL, identity); /* no row at all */
+    pin_refused(__LINE__, TANGLE_LEFT, 0, 15);
+    pin_refused(__LINE__, TANGLE_RIGHT, 1, 15);
+    pin_refused(__LINE__, TANGLE_LEFT, 2, 15);
+    record('N', 2, pair, pair, identity);
+    pin_refused(__LINE__, TANGLE_RIGHT, 2, 15);
+    pin(__LINE__, TANGLE_RIGHT, 1, 1, 2);
+    deep(512, 0);
+    pin_refused(__LINE__, TANGLE_LEFT, 512, 15);
+    pin_refused(__LINE__, TANGLE_RIGHT, 0, 15);
+}
+
+/* 3 is a layout byte and 4 is none, in the first and the last row of either side. */
+static void bytes_of_a_layout(void)
+{
+    static const uint8_t above[] = {4, 5, 6, 7, 8, 127, 128, 130, 254};
+
+    for (uint32_t side = TANGLE_LEFT; side <= TANGLE_RIGHT; side++)
+        for (size_t row = 1; row <= 3; row += 2) {
+            case2('N');
+            *layout_byte(&r, side, row) = 2;
+            checked(__LINE__, 0);
+            count(__LINE__, 0, 5);
+            for (size_t i = 0; i < sizeof above; i++) {
+                *layout_byte(&r, side, row) = above[i];
+                refused(__LINE__, 10);
+                *layout_byte(&r, side, row) = 3;
+                checked(__LINE__, 0);
+                unpack(4, 0);
+                pack(__LINE__, 4, 'N', 4, 0, 46, 0);
+                layout_places(side == TANGLE_LEFT ? &parts.left_layout : &parts.right_layout)[row - 1] = above[i];
+                pack(__LINE__, 4, 'N', 4, 0, 46, 10);
+                pack(__LINE__, 4, 'N', 4, 0, 0, 10); /* before the room */
+            }
+            deep(512, 0);
+            *layout_byte(&r, side, row == 1 ? 1 : 511) = 3;
+            checked(__LINE__, 0);
+            *layout_byte(&r, side, row == 1 ? 1 : 511) = 4;
+            checked(__LINE__, 10);
+        }
+}
+
+/* Two is read as 0 and three as 1, whatever reads it; a text and a table show no pins, and parts do. */
+static void pins_shown(void)
+{
+    static const uint8_t left_layout[] = {2, 3, 3}, right_layout[] = {0, 2, 1};
+    struct tangle_unpack u;
+
+    laid('B', "233021");
+    order(__LINE__, TANGLE_LEFT, 4, 0, "1234");
+    order(__LINE__, TANGLE_RIGHT, 4, 0, "3412");
+    count(__LINE__, 0, 4);
+    entanglement(__LINE__, 0, 16, 20, 1, 16.0 / 20.0, 894);
+    write_text(__LINE__, TANGLE_LEFT, 14, 0, "(((1,2),3),4);");
+    write_text(__LINE__, TANGLE_RIGHT, 14, 0, "((3,4),(1,2));");
+    better(__LINE__, TANGLE_LEFT, "1234", "4312", 0, TANGLE_SECOND); /* 4 crossings and 1 */
+    better(__LINE__, TANGLE_LEFT, "2134", "1234", 0, TANGLE_SECOND);
+    kept = r;
+    u = unpack(4, 0);
+    told(__LINE__, u.refusal, u.row, 0);
+    contains(__LINE__, &parts.left_layout, left_layout, sizeof left_layout);
+    contains(__LINE__, &parts.right_layout, right_layout, sizeof right_layout);
+    same_bytes(__LINE__, &kept);
+    pack(__LINE__, 4, 'B', 4, 0, 46, 0);
+    set_hold(__LINE__, TANGLE_HOLD_NONE, 0);
+    layouts(__LINE__, "233021");
+}
+
+/* 22 comes after 11 in an entry, and an entry before those after it; pins are those of the record lent. */
+static void pins_by_hand(void)
+{
+    laid('N', "021302");
+    hand(__LINE__, TANGLE_LEFT, 2, 22);
+    hand(__LINE__, TANGLE_RIGHT, 1, 22);
+    hand(__LINE__, TANGLE_RIGHT, 3, 22);
+    hand(__LINE__, 65537, 2, 13);
+    hand(__LINE__, TANGLE_LEFT, 65538, 15);
+    hand(__LINE__, TANGLE_LEFT, 1, 0);
+    layouts(__LINE__, "121302");
+    hand(__LINE__, TANGLE_LEFT, 3, 0);
+    layouts(__LINE__, "120302");
+    hand(__LINE__, TANGLE_RIGHT, 2, 0);
+    layouts(__LINE__, "120312");
+    hands(__LINE__, 0, 0);
+
+    list[0] = (struct tangle_entry){TANGLE_LEFT, 1};
+    list[1] = (struct tangle_entry){TANGLE_LEFT, 2};
+    list[2] = (struct tangle_entry){0, 0};
+    hands(__LINE__, 3, 22);
+    hands(__LINE__, 2, 22);
+    list[2] = (struct tangle_entry){TANGLE_LEFT, 2}; /* the same row twice is no better */
+    hands(__LINE__, 3, 22);
+    list[1] = (struct tangle_entry){TANGLE_RIGHT, 4};
+    hands(__LINE__, 3, 15);
+    list[1] = (struct tangle_entry){3, 1};
+    hands(__LINE__, 3, 13);
+    list[1] = (struct tangle_entry){TANGLE_RIGHT, 2};
+    hands(__LINE__, 3, 22);
+    hands(__LINE__, 2, 0);
+    layouts(__LINE__, "020302");
+
+    laid('L', "021302");
+    hand(__LINE__, TANGLE_LEFT, 2, 11);
+    hand(__LINE__, TANGLE_RIGHT, 1, 22);
+    list[1] = (struct tangle_entry){TANGLE_LEFT, 2};
+    hands(__LINE__, 2, 22);
+    list[0] = (struct tangle_entry){TANGLE_RIGHT, 2};
+    hands(__LINE__, 2, 11);
+    hands(__LINE__, 1, 0);
+    laid('B', "222222");
+    hand(__LINE__, TANGLE_RIGHT, 1, 11);
+    hands(__LINE__, 0, 0);
+
+    for (int i = 0; i <= TANGLE_MOST_HANDS; i++)
+        list[i] = (struct tangle_entry){TANGLE_LEFT, 1};
+    list[1023] = (struct tangle_entry){TANGLE_RIGHT, 1};
+    laid('N', "021302");
+    hands(__LINE__, 1025, 17);
+    hands(__LINE__, 1024, 22);
+    hands(__LINE__, 1023, 0);
+    layouts(__LINE__, "121302");
+}
+
+/* Freeing and runs: what is least among the choices that agree with the pinned rows. */
+static void pins_freed(void)
+{
+    static const uint16_t left[] = {1, 2, 4, 3}, right[] = {3, 2, 1, 4};
+    static struct record all;
+
+    laid('N', "002000"); /* example 3 with its left root pinned: 3 of its 5 crossings are the root's own */
+    free_side(__LINE__, TANGLE_LEFT, 0, 5, 3);
+    layouts(__LINE__, "012000");
+    order(__LINE__, TANGLE_LEFT, 4, 0, "4123");
+    free_side(__LINE__, TANGLE_LEFT, 0, 3, 3);
+    layouts(__LINE__, "012000");
+    laid('N', "002000");
+    run(__LINE__, TANGLE_MOST_TURNS, 0, 5, 2, 3, 1);
+    layouts(__LINE__, "012010");
+    laid('N', "003000"); /* and turned over */
+    free_side(__LINE__, TANGLE_LEFT, 0, 2, 0);
+    layouts(__LINE__, "013000");
+    laid('N', "222000");
+    free_side(__LINE__, TANGLE_LEFT, 0, 5, 5);
+    layouts(__LINE__, "222000");
+    free_side(__LINE__, TANGLE_RIGHT, 0, 5, 0);
+    layouts(__LINE__, "222011");
+    laid('R', "020000");
+    free_side(__LINE__, TANGLE_RIGHT, 11, 0, 0);
+    run(__LINE__, 2, 11, 0, 0, 0, 0);
+    free_side(__LINE__, TANGLE_LEFT, 0, 5, 2);
+    layouts(__LINE__, "021000");
+
+    record('N', 3, left, right, identity); /* example 6 with right row 1 pinned, and without */
+    pin(__LINE__, TANGLE_RIGHT, 1, 1, 2);
+    run(__LINE__, TANGLE_MOST_TURNS, 0, 1, 1, 2, 1);
+    layouts(__LINE__, "0020");
+    run(__LINE__, 1, 0, 1, 1, 1, 0);
+    pin(__LINE__, TANGLE_RIGHT, 1, 0, 0);
+    run(__LINE__, TANGLE_MOST_TURNS, 0, 1, 0, 3, 1);
+    layouts(__LINE__, "0010");
+
+    deep(512, 1); /* row i has i crossings of its own */
+    pin(__LINE__, TANGLE_RIGHT, 511, 1, 2);
+    free_side(__LINE__, TANGLE_RIGHT, 0, 130816, 511);
+    check(__LINE__, "the root's byte", *layout_byte(&r, TANGLE_RIGHT, 511), 2);
+    check(__LINE__, "row 510's byte", *layout_byte(&r, TANGLE_RIGHT, 510), 1);
+    deep(512, 1);
+    pin(__LINE__, TANGLE_RIGHT, 1, 1, 2);
+    free_side(__LINE__, TANGLE_RIGHT, 0, 130816, 1);
+    deep(512, 1);
+    memset(layout_byte(&r, TANGLE_LEFT, 1), 2, 1022);
+    all = r;
+    free_side(__LINE__, TANGLE_LEFT, 0, 130816, 130816);
+    free_side(__LINE__, TANGLE_RIGHT, 0, 130816, 130816);
+    run(__LINE__, 1, 0, 130816, 130816, 1, 0);
+    run(__LINE__, 2, 0, 130816, 130816, 2, 1);
+    run(__LINE__, TANGLE_MOST_TURNS, 0, 130816, 130816, 2, 1);
+    same_bytes(__LINE__, &all);
 }
 
 /* ---- packing and unpacking */
@@ -1129,7 +1418,7 @@ static void parts_refused(void)
     places(&parts.left)[0] = 7; /* the lists by their content, one after the other, before the room */
     places(&parts.right)[0] = 7;
     places(&parts.links)[0] = 2;
-    layout_places(&parts.left_layout)[2] = 2;
+    layout_places(&parts.left_layout)[2] = 4;
     layout_places(&parts.right_layout)[0] = 255;
     bad_row = 1;
     pack(__LINE__, 4, 'N', 4, 0, 0, 7);
@@ -1356,7 +1645,7 @@ static void texts_written(void)
     /* the side, then the record, then the room */
     write_text(__LINE__, 0, 0, 13, "");
     write_text(__LINE__, 3, MOST, 13, "");
-    bytes()[r.length - 1] = 2;
+    bytes()[r.length - 1] = 4;
     write_text(__LINE__, 3, 0, 13, "");
     write_text(__LINE__, TANGLE_LEFT, 0, 10, "");
     deep(512, 0);
@@ -1566,7 +1855,7 @@ static void tables_written(void)
     /* the side, then the record, then the room */
     write_refused(__LINE__, 0, 0, 13);
     write_refused(__LINE__, 3, MOST_PLACES, 13);
-    bytes()[r.length - 1] = 2;
+    bytes()[r.length - 1] = 4;
     write_refused(__LINE__, 3, 0, 13);
     write_refused(__LINE__, TANGLE_LEFT, 0, 10);
     make_deep_table();
@@ -1657,6 +1946,12 @@ int main(void)
     orders();
     holds_set();
     better_of_two();
+    pins_set();
+    pins_refused();
+    bytes_of_a_layout();
+    pins_shown();
+    pins_by_hand();
+    pins_freed();
     parts_of_case2();
     parts_refused();
     texts_read();

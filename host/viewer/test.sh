@@ -35,6 +35,7 @@ shows N case2.txt 0 1:2 1:3
 shows L held.txt 1 1:2
 shows X refused.txt 1
 shows N row4.txt 1 2:1 1:4
+layouts='\0\0\2\0\0\0' shows N pinned.txt 1 1:2 1:3
 left='\0\1\0\2\0\3\0\5\0\4\0\3' shows N left_row.txt 1
 right='\0\1\0\2\0\6\0\4\0\5\0\5' shows N right_row.txt 1 1:1
 leaves='\0\1' left='' right='' links='\0\1' layouts='' shows N one_leaf.txt 0

@@ -32,7 +32,7 @@ static const char *words(uint32_t refusal)
     case TANGLE_LEFT_ROW:
     case TANGLE_RIGHT_ROW: return "breaks the tree rule";
     case TANGLE_LINKS: return "links aren't one-to-one on 1 to n";
-    case TANGLE_LAYOUT: return "a layout byte isn't 0 or 1";
+    case TANGLE_LAYOUT: return "a layout byte is above 3";
     case TANGLE_HELD:
         return "the call frees a held side, runs while a side is held, or has a hand entry for a held side";
     case TANGLE_ALLOWANCE: return "allowance 0 or above 130,818";
@@ -45,6 +45,7 @@ static const char *words(uint32_t refusal)
     case TANGLE_LEAVES: return "a text's leaves aren't 1 to n once each, or n is above 512";
     case TANGLE_ENTRY: return "an entry of a merge table is zero, or names no leaf, or no earlier row";
     case TANGLE_TWICE: return "an entry of a merge table is used twice";
+    case TANGLE_PINNED: return "a hand list names a pinned row";
     default: return "a refusal without words";
     }
 }

@@ -1,11 +1,13 @@
-// The examples 1 to 13 of docs/CALLS.md, with the numbers that the customer gave for them.
-// Used by `cargo test` only.
+// The examples 1 to 13 of docs/CALLS.md, with the numbers that the customer gave for them, and some of
+// them with pinned rows, worked out by hand. Used by `cargo test` only.
 
 use crate::crossings;
 use crate::firmware::{self, Run, SquaredEntanglement};
 use crate::made::{case_2, example, Made};
+use crate::pins;
 use crate::record::{self, Side};
 use crate::refusals::told;
+use crate::sheet;
 
 const MOST_TURNS: u32 = 130_818;
 
@@ -171,6 +173,76 @@ fn example_13() {
     let measure = firmware::squared_entanglement(&backwards().bytes()).unwrap();
     assert_eq!(measure, SquaredEntanglement { d: 44_739_072, w: 44_739_072, ratio: Some(1.0) });
     assert_eq!(firmware::thousandths(&backwards().bytes()), Ok(Some(1000)));
+}
+
+/// The left root pinned as given keeps its 3 own crossings; row 2 is turned, and its 2 are gone.
+#[test]
+fn example_3_with_its_left_root_pinned() {
+    let mut record = case_2();
+    record.left_layout = vec![0, 0, 2];
+    let mut bytes = record.bytes();
+    assert_eq!(order(&bytes, 1, 4), [4, 3, 1, 2]);
+    assert_eq!(firmware::free(&mut bytes, 1), Ok((5, 3)));
+    record.left_layout = vec![0, 1, 2];
+    assert_eq!(bytes, record.bytes());
+    assert_eq!(order(&bytes, 1, 4), [4, 1, 2, 3]);
+    assert_eq!(count(&bytes), 3);
+    assert_eq!(firmware::free(&mut bytes, 1), Ok((3, 3)));
+    assert_eq!(bytes, record.bytes());
+}
+
+/// Its run: the right's row 2 is turned in turn 2, which leaves 2 crossings of the pinned root.
+#[test]
+fn the_run_of_example_3_with_its_left_root_pinned() {
+    let mut record = case_2();
+    record.left_layout = vec![0, 0, 2];
+    let mut bytes = record.bytes();
+    assert_eq!(run(&mut bytes, MOST_TURNS), (5, 2, 3, true));
+    let text = sheet::sheet(record.bytes());
+    assert!(text.ends_with("X 5\nE 18 20 948\nT 3 S 2\nL 4 1 2 3\nR 1 2 4 3\n"));
+    record.left_layout = vec![0, 1, 2];
+    record.right_layout = vec![0, 1, 0];
+    assert_eq!(bytes, record.bytes());
+}
+
+/// The same root turned over and pinned: what is best anyway is found.
+#[test]
+fn example_3_with_its_left_root_turned_and_pinned() {
+    let mut bytes = case_2().bytes();
+    assert_eq!(firmware::hands(&mut bytes, &[(1, 3)]), Ok(()));
+    assert_eq!(pins::pin(&mut bytes, 1, 3, true), Ok(()));
+    assert_eq!(firmware::free(&mut bytes, 1), Ok((2, 0)));
+    assert_eq!(record::read(&bytes).unwrap().layout(Side::Left), [0, 1, 3]);
+    assert_eq!(order(&bytes, 1, 4), [1, 2, 3, 4]);
+    assert_eq!(told(&firmware::hands(&mut bytes, &[(1, 3)])), "22");
+}
+
+/// Turn 2 would have turned the pinned row, and was all that example 6 gained.
+#[test]
+fn example_6_with_right_row_1_pinned() {
+    let mut record = example(&[1, 2, 4, 3], &[3, 2, 1, 4]);
+    record.right_layout = vec![2, 0];
+    let mut bytes = record.bytes();
+    assert_eq!(run(&mut bytes, MOST_TURNS), (1, 1, 2, true));
+    assert_eq!(run(&mut bytes, 2), (1, 1, 2, true));
+    assert_eq!(run(&mut bytes, 1), (1, 1, 1, false));
+    assert_eq!(bytes, record.bytes());
+    assert_eq!(order(&bytes, 1, 3), [1, 2, 3]);
+    assert_eq!(order(&bytes, 2, 3), [1, 3, 2]);
+    assert_eq!(pins::pin(&mut bytes, 2, 1, false), Ok(()));
+    assert_eq!(run(&mut bytes, MOST_TURNS), (1, 0, 3, true));
+}
+
+#[test]
+fn example_8_pinned() {
+    let mut record = example(&[1, 2], &[1, 2]);
+    record.links = vec![2, 1];
+    let mut bytes = record.bytes();
+    assert_eq!(pins::pin(&mut bytes, 1, 1, true), Ok(()));
+    assert_eq!(firmware::free(&mut bytes, 1), Ok((1, 1)));
+    assert_eq!(run(&mut bytes, MOST_TURNS), (1, 0, 3, true));
+    let record = record::read(&bytes).unwrap();
+    assert_eq!([Side::Left, Side::Right].map(|side| record.layout(side)[0]), [2, 1]);
 }
 
 #[test]

@@ -55,7 +55,7 @@ fn any_size(random: &mut Random) -> usize {
 fn any_call(random: &mut Random) -> String {
     let made = made::any_record(any_size(random), random);
     let record = faults::any_bytes(&made, random);
-    match random.below(130) {
+    match random.below(142) {
         0..=4 => lines::plain("check", &record),
         5..=13 => {
             let side = any_side(random);
@@ -76,6 +76,7 @@ fn any_call(random: &mut Random) -> String {
         107..=110 => any_newick_write(&made, &record, random),
         111..=117 => any_merge_read(&made, random),
         118..=121 => any_merge_write(&made, &record, random),
+        122..=133 => any_pin(&made, &record, random),
         _ => any_thousandths(&made, &record, random),
     }
 }
@@ -142,9 +143,23 @@ fn any_buffer(wanted: usize, random: &mut Random) -> Vec<u16> {
     rubbish(places, random)
 }
 
+/// The rows that a hand list may name: of these sides, in most cases the rows that are not pinned, if
+/// there are such.
+fn rows_for_hands(made: &Made, sides: &[u16], random: &mut Random) -> Vec<(u16, u16)> {
+    let rows = 1..=(made.n - 1).max(1);
+    let all: Vec<(u16, u16)> = rows.flat_map(|row| sides.iter().map(move |&side| (side, row))).collect();
+    let is_pinned = |side, row: u16| made.layout(side).get(row as usize - 1).is_some_and(|&byte| byte >= 2);
+    let mut unpinned = all.clone();
+    unpinned.retain(|&(side, row)| !is_pinned(side, row));
+    if unpinned.is_empty() || random.chance(200) {
+        all
+    } else {
+        unpinned
+    }
+}
+
 /// A hand list: in most cases short and good, sometimes with bad entries, rarely very long.
 fn any_hands(made: &Made, random: &mut Random) -> Vec<(u16, u16)> {
-    let rows = made.n as usize - 1;
     let length = match random.below(1000) {
         0..=79 => 0,
         80..=85 => 1024,
@@ -158,10 +173,8 @@ fn any_hands(made: &Made, random: &mut Random) -> Vec<(u16, u16)> {
         (b'R', true) => &[1],
         _ => &[1, 2],
     };
-    let mut entries: Vec<(u16, u16)> = Vec::new();
-    for _ in 0..length {
-        entries.push((random.pick(sides), 1 + random.below(rows.max(1)) as u16));
-    }
+    let rows = rows_for_hands(made, sides, random);
+    let mut entries: Vec<(u16, u16)> = (0..length).map(|_| random.pick(&rows)).collect();
     if length > 0 && random.chance(220) {
         for _ in 0..random.pick(&[1, 1, 2, 3]) {
             let at = random.below(length);
@@ -346,6 +359,25 @@ fn any_merge_write(made: &Made, record: &[u8], random: &mut Random) -> String {
     lines::merge_write(record, side, &out)
 }
 
+/// Pins or unpins a row: in most cases one that there is; now and then the flag is none.
+fn any_pin(made: &Made, record: &[u8], random: &mut Random) -> String {
+    let any = random.below(65536);
+    let n = made.n as usize;
+    let row = if random.chance(880) {
+        1 + random.below((n - 1).max(1))
+    } else {
+        random.pick(&[0, n, n, n + 1, 256 + n, 65535, any])
+    };
+    let flag = if random.chance(970) {
+        random.below(2) as u64
+    } else {
+        random.pick(&[2, 3, 10, 255, 256, 257, 65536, 65537, 1 << 32, (1 << 32) + 1, u64::MAX])
+    };
+    let side = any_side(random);
+    let row = text(row as u64, random);
+    lines::pin(record, side, row, text(flag, random))
+}
+
 /// Thousandths of a record as it is, or with the least displacement for some k or the one below that.
 fn any_thousandths(made: &Made, record: &[u8], random: &mut Random) -> String {
     let n = made.n as usize;
@@ -360,7 +392,9 @@ fn any_thousandths(made: &Made, record: &[u8], random: &mut Random) -> String {
 #[cfg(test)]
 mod tests {
     use super::*;
-    use crate::desk;
+    use crate::desk::{self, Call};
+    use crate::firmware;
+    use crate::record::{self, Side};
 
     #[test]
     fn a_seed_gives_the_same_lines() {
@@ -379,5 +413,29 @@ mod tests {
         let mut random = Random::new(12);
         let good = (0..1000).filter(|_| desk::call(&any_line(&mut random)).is_some()).count();
         assert!((900..990).contains(&good));
+    }
+
+    #[test]
+    fn random_lines_have_pins() {
+        let mut random = Random::new(35);
+        let (mut pinned, mut by_hand, mut pin) = (0, 0, 0);
+        for _ in 0..4000 {
+            let call = desk::call(&any_line(&mut random));
+            let has_pins = |record: &[u8]| {
+                record::read(record).is_ok_and(|record| {
+                    let bytes = [Side::Left, Side::Right].map(|side| record.layout(side)).concat();
+                    bytes.iter().any(|&byte| byte >= 2)
+                })
+            };
+            match call {
+                Some(Call::Free(record, _)) => pinned += has_pins(&record) as usize,
+                Some(Call::Pin(record, ..)) => pin += firmware::check(&record).is_ok() as usize,
+                Some(Call::Hands(mut record, entries)) if !entries.is_empty() && has_pins(&record) => {
+                    by_hand += firmware::hands(&mut record, &entries).is_ok() as usize;
+                }
+                _ => {}
+            }
+        }
+        assert!(pinned > 60 && by_hand > 30 && pin > 150, "{pinned} {by_hand} {pin}");
     }
 }

@@ -5,6 +5,7 @@
 use crate::firmware;
 use crate::merge;
 use crate::newick;
+use crate::pins;
 use crate::record::{self, Buffers, Parts};
 use crate::refusals::{told, Refusal};
 
@@ -24,6 +25,7 @@ pub enum Call {
     Better(Vec<u8>, u16, Vec<u16>, Vec<u16>),
     BetterCheck(Vec<u8>, u16, Vec<u16>, Vec<u16>),
     Hold(Vec<u8>, u8),
+    Pin(Vec<u8>, u16, u16, bool),
     Pack(u8, u16, [Vec<u16>; 3], [Vec<u8>; 2], Vec<u8>),
     Unpack(Vec<u8>, [Vec<u16>; 3], [Vec<u8>; 2]),
     NewickRead(Vec<u8>, Vec<u16>),
@@ -60,6 +62,11 @@ fn allowance(word: &[u8]) -> Option<u32> {
 
 fn letter(word: &[u8]) -> Option<u8> {
     number(word, u8::MAX as u64).map(|value| value as u8)
+}
+
+/// 1 or 0, with zeros in front or without; no other number.
+fn flag(word: &[u8]) -> Option<bool> {
+    number(word, 1).map(|value| value == 1)
 }
 
 /// A number with a `-` before it where it is negative.
@@ -131,6 +138,7 @@ pub fn call(line: &[u8]) -> Option<Call> {
         (b"better", &[a, s, x, y]) => Call::Better(bytes(a)?, short(s)?, list(x)?, list(y)?),
         (b"better_check", &[a, s, x, y]) => Call::BetterCheck(bytes(a)?, short(s)?, list(x)?, list(y)?),
         (b"hold", &[a, h]) => Call::Hold(bytes(a)?, letter(h)?),
+        (b"pin", &[a, s, r, f]) => Call::Pin(bytes(a)?, short(s)?, short(r)?, flag(f)?),
         (b"pack", &[h, n, l, r, p, x, y, o]) => {
             let numbers = [list(l)?, list(r)?, list(p)?];
             Call::Pack(letter(h)?, short(n)?, numbers, [bytes(x)?, bytes(y)?], bytes(o)?)
@@ -214,6 +222,11 @@ fn hold_answer(mut record: Vec<u8>, letter: u8) -> String {
     format!("{} {}", told(&result), hex(&record))
 }
 
+fn pin_answer(mut record: Vec<u8>, side: u16, row: u16, pinned: bool) -> String {
+    let result = pins::pin(&mut record, side, row, pinned);
+    format!("{} {}", told(&result), hex(&record))
+}
+
 fn pack_answer(hold: u8, n: u16, numbers: [Vec<u16>; 3], layouts: [Vec<u8>; 2], mut out: Vec<u8>) -> String {
     let parts = Parts {
         left: &numbers[0],
@@ -275,6 +288,7 @@ pub fn answer(line: &[u8]) -> String {
         Call::Better(record, side, x, y) => commas(firmware::better(&record, side, &x, &y)),
         Call::BetterCheck(record, side, x, y) => told(&firmware::better_check(&record, side, &x, &y)),
         Call::Hold(record, letter) => hold_answer(record, letter),
+        Call::Pin(record, side, row, pinned) => pin_answer(record, side, row, pinned),
         Call::Pack(hold, n, numbers, layouts, out) => pack_answer(hold, n, numbers, layouts, out),
         Call::Unpack(record, numbers, layouts) => unpack_answer(&record, numbers, layouts),
         Call::NewickRead(text, out) => newick_read_answer(&text, out),
@@ -313,6 +327,23 @@ mod tests {
         assert_eq!(allowance(b"4294967296"), None);
         assert_eq!(letter(b"255"), Some(255));
         assert_eq!(letter(b"256"), None);
+    }
+
+    #[test]
+    fn flags() {
+        let zeros = "0".repeat(70);
+        for (word, wanted) in [("0", false), ("1", true), ("00", false), ("01", true)] {
+            assert_eq!(flag(word.as_bytes()), Some(wanted));
+            assert_eq!(flag(format!("{zeros}{word}").as_bytes()), Some(wanted));
+        }
+        for word in ["2", "3", "10", "11", "256", "257", "65536", "65537", "4294967296", "18446744073709551617"]
+        {
+            assert_eq!(flag(word.as_bytes()), None);
+            assert_eq!(flag(format!("{zeros}{word}").as_bytes()), None);
+        }
+        for word in ["", "-", "+1", "-0", "-1", "1.0", "1,", "true", "0x1", "1 "] {
+            assert_eq!(flag(word.as_bytes()), None);
+        }
     }
 
     #[test]
@@ -364,6 +395,16 @@ mod tests {
         for line in ["Check -", "checks -", "check - -", "free - 65536", "run - 4294967296", "hold - 256"] {
             assert_eq!(answer(line.as_bytes()), "?");
         }
+        for line in ["pin", "pin -", "pin - 1", "pin - 1 1", "pin - 1 1 ", "pin - 1 1 2", "pin - 1 1 1 1"] {
+            assert_eq!(answer(line.as_bytes()), "?");
+        }
+        for line in
+            ["pin - 65536 1 1", "pin - 1 65536 1", "pin - 3 0 2", "pin - 1 1 -", "pin 0 1 1 1", "pins - 1 1 1"]
+        {
+            assert_eq!(answer(line.as_bytes()), "?");
+        }
+        assert_eq!(answer(b"pin - 65535 65535 01"), "13 -");
+        assert_eq!(answer(b"pin - 2 65535 0"), "1 -");
         assert_eq!(answer(b"free - 65535"), "13 0 0 -");
         assert_eq!(answer(b"squared_entanglement -"), "1 0 0 none");
         assert_eq!(answer(b"thousandths -"), "1 none");
@@ -401,6 +442,7 @@ mod tests {
             ("better R 1 1,2,3,4 1,2,3,4", "-"),
             ("better_check R 1 1,2,3,4 1,2,3,4", "7 3"),
             ("hold R 78", "7 3 R"),
+            ("pin R 1 0 1", "7 3 R"),
             ("pack 78 4 1,2,3,5,4,3 0,2,3,4,5,6 1,2,3,4 000000 000000 00", "7 3 00"),
             ("pack 78 4 1,2,3,5,4,6 0,2,3,4,5,6 1,2,3,4 000000 000000 00", "8 1 00"),
             ("unpack R 6,6 - 0 00 -", "7 3 0 0 6,6 - 0 00 -"),
@@ -418,7 +460,7 @@ mod tests {
         match call {
             Call::Check(..) | Call::BetterCheck(..) => Some(1),
             Call::Order(..) | Call::Count(..) | Call::Pairs(..) | Call::Thousandths(..) => Some(2),
-            Call::Hands(..) | Call::Hold(..) | Call::Pack(..) => Some(2),
+            Call::Hands(..) | Call::Hold(..) | Call::Pin(..) | Call::Pack(..) => Some(2),
             Call::MergeRead(..) | Call::MergeWrite(..) => Some(2),
             Call::NewickRead(..) | Call::NewickWrite(..) => Some(3),
             Call::SquaredEntanglement(..) | Call::Free(..) => Some(4),

@@ -1,19 +1,22 @@
 // The fixed calls that stand at the head of every stream: the examples of docs/CALLS.md, both
 // sides of every limit, every refusal of every call, and several faults at once so that the
-// order of the tests shows. They are the same for every seed.
+// order of the tests shows. They are the same for every seed. What only says again, under another call,
+// what stands before it comes last.
 
 use crate::bad_links;
 use crate::bad_rows;
 use crate::desk::hex;
+use crate::every_call;
 use crate::faults;
 use crate::lines;
 use crate::made::{any_record, case_2, example, of_shape, Made};
 use crate::malformed;
 use crate::merge_edges;
 use crate::newick_edges;
+use crate::pin_edges;
 use crate::random::Random;
 use crate::ratio_edges;
-use crate::spelling;
+use crate::sides;
 
 const SIDES: [u16; 10] = [0, 1, 2, 3, 256, 257, 258, 512, 32769, 65535];
 #[rustfmt::skip]
@@ -25,7 +28,8 @@ const HOLDS: [u8; 4] = [b'N', b'L', b'R', b'B'];
 
 /// All fixed lines.
 pub fn all() -> Vec<String> {
-    let mut all = examples();
+    let mut all = pin_edges::largest();
+    all.extend(examples());
     all.extend(rows_that_break_the_rule());
     all.extend(links_that_are_not_one_to_one());
     all.extend(ratio_edges::all());
@@ -38,6 +42,7 @@ pub fn all() -> Vec<String> {
     all.extend(packing());
     all.extend(packing_several_faults());
     all.extend(unpacking());
+    all.extend(pin_edges::all());
     all.extend(newick_edges::all());
     all.extend(merge_edges::all());
     all.extend(sizes());
@@ -45,7 +50,19 @@ pub fn all() -> Vec<String> {
     all.extend(bad_records_and_arguments());
     all.extend(zeros_in_front());
     all.extend(malformed::fixed(&hex(&case_2().bytes())));
+    all.extend(again());
     all
+}
+
+/// What says again what stands before it: faulty records under the calls that were left out there, every
+/// other letter for the hold, and faulty records with sides that are far off.
+fn again() -> Vec<String> {
+    let mut calls = faults_under_calls(|at, call| !comes_first(at, call));
+    let letters = (0..=256).filter(|letter| !LETTERS.contains(letter));
+    calls.extend(letters.map(|letter| lines::hold(&one_leaf().bytes(), letter)));
+    calls.extend(sides::far_off(|record, side| lines::newick_write(record, side, &[])));
+    calls.extend(sides::far_off(|record, side| lines::merge_write(record, side, &[])));
+    calls
 }
 
 fn with_links(mut made: Made, links: &[u16]) -> Made {
@@ -58,20 +75,20 @@ fn with_hold(mut made: Made, hold: u8) -> Made {
     made
 }
 
-fn example_5() -> Made {
+pub fn example_5() -> Made {
     example(&[1, 2, 4, 3], &[1, 3, 4, 2])
 }
 
-fn example_6() -> Made {
+pub fn example_6() -> Made {
     example(&[1, 2, 4, 3], &[3, 2, 1, 4])
 }
 
-fn one_leaf() -> Made {
+pub fn one_leaf() -> Made {
     example(&[], &[])
 }
 
 /// Example 13: a caterpillar on both sides, and links backwards.
-fn backwards() -> Made {
+pub fn backwards() -> Made {
     let mut rows = vec![1, 2];
     for i in 2..512 {
         rows.extend([511 + i, i + 1]);
@@ -91,32 +108,6 @@ fn last_row_bad() -> Vec<bad_rows::Bad> {
     bad_rows::in_row(&backwards(), 511)
 }
 
-/// Every call that takes a record, with arguments that are good for this made record.
-fn calls_on(made: &Made, record: &[u8]) -> Vec<String> {
-    let n = made.n as usize;
-    let plain = ["check", "count", "pairs", "squared_entanglement", "thousandths"];
-    let mut calls: Vec<String> = plain.map(|word| lines::plain(word, record)).into();
-    for side in [1, 2] {
-        calls.push(lines::order(record, side, &vec![9; n]));
-        calls.push(lines::free(record, side));
-    }
-    calls.push(lines::run(record, 130_818));
-    let last_row = made.n - 1;
-    calls.push(lines::hands(record, &[(1, last_row), (2, 1)]));
-    calls.push(lines::hands(record, &[]));
-    let first = made.present_order(1);
-    let second = made.order_of(1, &vec![1; n - 1]);
-    calls.push(lines::better("better", record, 1, &first, &second));
-    calls.push(lines::better("better_check", record, 1, &first, &second));
-    calls.push(lines::hold(record, b'B'));
-    let numbers = [vec![8; 2 * (n - 1)], vec![8; 2 * (n - 1)], vec![8; n]];
-    calls.push(lines::unpack(record, &numbers, &[vec![8; n - 1], vec![8; n - 1]]));
-    let length = spelling::tree(&made.left, &made.left_layout).concat().len();
-    calls.push(lines::newick_write(record, 2, &vec![8; length]));
-    calls.push(lines::merge_write(record, 1, &vec![8; 2 * (n - 1)]));
-    calls
-}
-
 fn examples() -> Vec<String> {
     let mut turned = example_5();
     turned.left_layout = vec![1, 0];
@@ -130,7 +121,7 @@ fn examples() -> Vec<String> {
     let examples = [case_2(), example_5(), turned, inverse, example_6(), one_leaf(), pair, backwards()];
     let mut calls: Vec<String> = Vec::new();
     for made in &examples {
-        calls.extend(calls_on(made, &made.bytes()));
+        calls.extend(every_call::on(made, &made.bytes()));
     }
     for rows in bad {
         calls.push(lines::plain("check", &example(&rows, &good).bytes()));
@@ -138,7 +129,7 @@ fn examples() -> Vec<String> {
     }
     for hold in HOLDS {
         let held = with_hold(case_2(), hold);
-        calls.extend(calls_on(&held, &held.bytes()));
+        calls.extend(every_call::on(&held, &held.bytes()));
     }
     let mut more = backwards();
     more.n = 513;
@@ -344,12 +335,16 @@ fn long_orders() -> Vec<String> {
     calls
 }
 
-/// Setting the hold: every letter from 0 to 256 on a good record, some on others.
+/// The four letters and those on both sides of them, the small ones, the four with another high bit, and both
+/// ends of what a letter can be.
+#[rustfmt::skip]
+const LETTERS: [u16; 23] = [
+    0, 1, 65, 66, 67, 75, 76, 77, 78, 79, 81, 82, 83, 98, 108, 110, 114, 194, 204, 206, 210, 255, 256,
+];
+
+/// Setting the hold: these letters on a good record, some on others.
 fn holds() -> Vec<String> {
-    let mut calls = Vec::new();
-    for letter in 0..=256 {
-        calls.push(lines::hold(&one_leaf().bytes(), letter));
-    }
+    let mut calls: Vec<String> = LETTERS.map(|letter| lines::hold(&one_leaf().bytes(), letter)).into();
     for letter in [0, 66, 76, 77, 78, 82, 110, 255] {
         for hold in [b'N', b'L', b'R', b'B', 0, b'n'] {
             calls.push(lines::hold(&with_hold(case_2(), hold).bytes(), letter));
@@ -419,7 +414,7 @@ fn packing_several_faults() -> Vec<String> {
         |made| made.left[3] = 0,
         |made| made.right[5] = 7,
         |made| made.links[3] = 1,
-        |made| made.left_layout[2] = 2,
+        |made| made.left_layout[2] = 4,
         |made| made.right_layout[0] = 255,
         |_| {},
     ];
@@ -476,9 +471,9 @@ fn sizes() -> Vec<String> {
     let mut random = Random::new(512);
     let mut calls = Vec::new();
     for n in [1, 2, 3, 511] {
-        let made = with_hold(any_record(n, &mut random), b'N');
+        let made = with_hold(any_record(n, &mut random).none_pinned(), b'N');
         let mut bytes = made.bytes();
-        let on_it = calls_on(&made, &bytes).into_iter();
+        let on_it = every_call::on(&made, &bytes).into_iter();
         calls.extend(on_it.step_by(if n == 511 { 4 } else { 1 }));
         bytes.push(0);
         calls.push(lines::plain("check", &bytes));
@@ -486,7 +481,7 @@ fn sizes() -> Vec<String> {
     }
     for shape in ["balanced", "caterpillar", "random"] {
         if let Some(made) = of_shape(shape, 512, &mut random) {
-            calls.extend(calls_on(&made, &made.bytes()));
+            calls.extend(every_call::on(&made, &made.bytes()));
         }
     }
     let mut bytes = backwards().bytes();
@@ -507,19 +502,31 @@ fn sizes() -> Vec<String> {
     calls
 }
 
-/// Faulty records under every call that takes a record.
-fn bad_records() -> Vec<String> {
+/// Faulty records under the calls that take a record, where the numbers of both, from 0, are wanted.
+fn faults_under_calls(wanted: impl Fn(usize, usize) -> bool) -> Vec<String> {
     let mut calls = Vec::new();
-    for record in faults::single() {
-        calls.extend(calls_on(&case_2(), &record));
+    for (at, record) in faults::single().iter().enumerate() {
+        let on_it = every_call::on(&case_2(), record).into_iter().enumerate();
+        calls.extend(on_it.filter(|&(call, _)| wanted(at, call)).map(|(_, line)| line));
     }
+    calls
+}
+
+/// Which of these come first: the check of each record, and of the other calls every third.
+fn comes_first(at: usize, call: usize) -> bool {
+    call == 0 || (at + call) % 3 == 0
+}
+
+/// Faulty records, so that every call that takes a record meets every refusal from 1 to 10.
+fn bad_records() -> Vec<String> {
+    let mut calls = faults_under_calls(comes_first);
     for record in faults::several() {
         calls.push(lines::plain("check", &record));
         calls.push(lines::plain("thousandths", &record));
         calls.push(lines::run(&record, 9));
     }
     for (made, _) in first_row_bad().iter().chain(&last_row_bad()) {
-        let but_the_check = calls_on(&backwards(), &made.bytes()).into_iter().skip(1);
+        let but_the_check = every_call::on(&backwards(), &made.bytes()).into_iter().skip(1);
         calls.extend(but_the_check);
     }
     calls
@@ -573,4 +580,34 @@ fn zeros_in_front() -> Vec<String> {
         format!("pack 078 0001 - - {zeros}1 - - 00000000000000000000"),
         format!("unpack {digits} {zeros},1,2,3,4,5 0,0,0,0,0,0 0,0,0,00 000000 000000"),
     ]
+}
+
+#[cfg(test)]
+mod tests {
+    use super::*;
+    use crate::desk;
+    use std::collections::BTreeSet;
+
+    fn number(line: &str) -> String {
+        desk::answer(line.as_bytes()).split(' ').next().unwrap_or_default().to_string()
+    }
+
+    #[test]
+    fn every_call_meets_every_number_before_it_is_said_again() {
+        let first = faults_under_calls(comes_first);
+        let words: BTreeSet<&str> = first.iter().filter_map(|line| line.split(' ').next()).collect();
+        assert_eq!(words.len(), 16);
+        for word in words.into_iter().filter(|&word| word != "better") {
+            let of_word = first.iter().filter(|line| line.split(' ').next() == Some(word));
+            let told: BTreeSet<String> = of_word.map(|line| number(line)).collect();
+            assert!((1..=10).all(|wanted| told.contains(&wanted.to_string())), "{word}");
+        }
+    }
+
+    #[test]
+    fn what_is_said_again_is_all_that_was_left_out() {
+        let lines: BTreeSet<String> = all().into_iter().collect();
+        assert!(faults_under_calls(|_, _| true).iter().all(|line| lines.contains(line)));
+        assert!((0..=256).all(|letter| lines.contains(&lines::hold(&one_leaf().bytes(), letter))));
+    }
 }

@@ -49,7 +49,7 @@ pub fn single() -> Vec<Vec<u8>> {
     faulty.extend([0, 2, 5, 257, 65535].map(|link| number_at(LINKS, link)));
     faulty.extend([0, 1, 5, 260].map(|link| number_at(LINKS + 6, link)));
     let layout_places = [LEFT_LAYOUT, LEFT_LAYOUT + 2, RIGHT_LAYOUT, RIGHT_LAYOUT + 2];
-    faulty.extend(layout_places.map(|at| with(&[(at, 2)])));
+    faulty.extend(layout_places.map(|at| with(&[(at, 4)])));
     faulty.extend([255, 128, b'0'].map(|byte| with(&[(LEFT_LAYOUT + 1, byte)])));
     faulty
 }
@@ -63,8 +63,8 @@ const CHANGES: [(usize, u8); 9] = [
     (LEFT_ROWS + 5, 0),
     (RIGHT_ROWS + 9, 0),
     (LINKS + 1, 0),
-    (LEFT_LAYOUT, 2),
-    (RIGHT_LAYOUT + 2, 2),
+    (LEFT_LAYOUT, 4),
+    (RIGHT_LAYOUT + 2, 4),
 ];
 
 /// Case 2 with one fault for each refusal from 1 to 10, once.
@@ -102,7 +102,7 @@ pub fn damage_a_part(made: &mut Made, random: &mut Random) {
             let layout = made.layout_mut(1 + random.below(2) as u16);
             if !layout.is_empty() {
                 let at = random.below(layout.len());
-                layout[at] = random.pick(&[2, 3, 48, 49, 128, 254, 255]);
+                layout[at] = random.pick(&[4, 4, 5, 6, 7, 8, 48, 49, 128, 130, 254, 255]);
             }
         }
     }

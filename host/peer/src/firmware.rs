@@ -1,6 +1,7 @@
 // The calls, each with its refusals in their order (docs/CALLS.md): 17, 12, 13, then
 // the record's 1 to 10, then 16, 11, 14. A call that is refused changes nothing that was lent,
-// because it works on a record of its own and puts layouts back at the end only.
+// because it works on a record of its own and puts layouts back at the end only. The call that pins a
+// row is in pins.rs.
 
 use crate::crossings;
 use crate::record::{self, Record, Side};
@@ -82,12 +83,12 @@ pub fn most_thousandths(d: u64, w: u64) -> u32 {
     k
 }
 
-/// Turns each row of a side, from its present byte, exactly if that makes its own crossings
-/// strictly fewer. The other side stands.
+/// Turns each row of a side that is not pinned, from its present byte, exactly if that makes its own
+/// crossings strictly fewer. The other side stands.
 fn free_side(record: &mut Record, side: Side) {
     let own = crossings::own_crossings(record, side);
     for (index, (crossing, upper, lower)) in own.into_iter().enumerate() {
-        if upper * lower - crossing < crossing {
+        if !record.is_pinned(side, index) && upper * lower - crossing < crossing {
             record.turn(side, index);
         }
     }
@@ -145,7 +146,7 @@ fn take_turns(record: &mut Record, allowance: u32) -> Run {
     Run { first, last, turns: allowance, settled: false }
 }
 
-/// Applies a hand list of sides and rows: 17, 1 to 10, then for the first bad entry 13, 15, 11.
+/// Applies a hand list of sides and rows: 17, 1 to 10, then for the first bad entry 13, 15, 11, 22.
 pub fn hands(bytes: &mut [u8], entries: &[(u16, u16)]) -> Result<(), Refusal> {
     if entries.len() > MOST_HANDS {
         return Err(refusals::HANDS);
@@ -153,13 +154,14 @@ pub fn hands(bytes: &mut [u8], entries: &[(u16, u16)]) -> Result<(), Refusal> {
     let mut record = record::read(bytes)?;
     for &(side, row) in entries {
         let side = Side::of(side)?;
-        if row == 0 || row as usize > record.n - 1 {
-            return Err(refusals::ROW);
-        }
+        let index = record.index(row)?;
         if record.held(side) {
             return Err(refusals::HELD);
         }
-        record.turn(side, row as usize - 1);
+        if record.is_pinned(side, index) {
+            return Err(refusals::PINNED);
+        }
+        record.turn(side, index);
     }
     record.put_layouts(bytes);
     Ok(())
@@ -210,11 +212,16 @@ mod tests {
     use crate::made;
     use crate::random::Random;
 
+    /// The least count over all layouts of a side that turn no pinned row of it.
     fn least_over_all_layouts(record: &made::Made, side: u16) -> u32 {
-        let bits = 0..1 << (record.n - 1);
-        let counts = bits.map(|bits| {
+        let agrees = |layout: &Vec<u8>| {
+            let mut bytes = layout.iter().zip(record.layout(side));
+            bytes.all(|(&byte, &present)| present < 2 || byte == present - 2)
+        };
+        let layouts = (0..1 << (record.n - 1)).map(|bits| made::layout_of_bits(record.n as usize, bits));
+        let counts = layouts.filter(agrees).map(|layout| {
             let mut laid = record.clone();
-            *laid.layout_mut(side) = made::layout_of_bits(record.n as usize, bits);
+            *laid.layout_mut(side) = layout;
             pairs(&laid.bytes()).unwrap()
         });
         counts.min().unwrap()
@@ -264,6 +271,89 @@ mod tests {
                 assert_eq!(after, least_over_all_layouts(&record, side));
             }
         }
+    }
+
+    #[test]
+    fn freeing_changes_no_pinned_byte_and_nothing_of_the_other_side() {
+        let mut random = Random::new(33);
+        let (mut some, mut all) = (0, 0);
+        for round in 0..1200 {
+            let mut record = made::any_record(2 + round % 5, &mut random);
+            record.hold = b'N';
+            for side in [1, 2] {
+                let pinned = record.layout(side).iter().filter(|&&byte| byte >= 2).count();
+                some += (pinned > 0) as usize;
+                all += (pinned == record.layout(side).len()) as usize;
+                let mut bytes = record.bytes();
+                let (before, after) = free(&mut bytes, side).unwrap();
+                let mut wanted = record.clone();
+                let freed = record::read(&bytes).unwrap();
+                let layout = freed.layout(Side::of(side).unwrap());
+                let turned = |(byte, &new): (&mut u8, &u8)| {
+                    if *byte < 2 && new < 2 {
+                        *byte = new
+                    }
+                };
+                wanted.layout_mut(side).iter_mut().zip(layout).for_each(turned);
+                assert_eq!(bytes, wanted.bytes());
+                assert_eq!(before == after, bytes == record.bytes());
+                assert_eq!(after, least_over_all_layouts(&record, side));
+            }
+        }
+        assert!(some > 500 && all > 100);
+    }
+
+    #[test]
+    fn a_record_with_all_rows_pinned_stays() {
+        let mut random = Random::new(34);
+        for n in 1..=12 {
+            let mut record = made::any_record(n, &mut random).all_pinned();
+            record.hold = b'N';
+            let count = pairs(&record.bytes()).unwrap();
+            let stays = |turns, settled| Run { first: count, last: count, turns, settled };
+            let mut bytes = record.bytes();
+            assert_eq!([1, 2].map(|side| free(&mut bytes, side)), [Ok((count, count)); 2]);
+            assert_eq!(run(&mut bytes, 1), Ok(stays(1, false)));
+            for allowance in [2, 3, MOST_TURNS] {
+                assert_eq!(run(&mut bytes, allowance), Ok(stays(2, true)));
+            }
+            assert_eq!(bytes, record.bytes());
+        }
+    }
+
+    #[test]
+    fn of_a_hand_list_the_first_bad_entry_decides() {
+        let mut record = made::case_2();
+        record.left_layout = vec![0, 2, 1];
+        record.right_layout = vec![3, 0, 2];
+        let mut told_of = |hold: u8, entries: &[(u16, u16)]| {
+            record.hold = hold;
+            let mut bytes = record.bytes();
+            let result = hands(&mut bytes, entries);
+            assert!(result.is_ok() || bytes == record.bytes());
+            (refusals::told(&result), bytes[40..].to_vec())
+        };
+        let mut refused = |hold: u8, entries: &[(u16, u16)], wanted: &str| {
+            assert_eq!(told_of(hold, entries).0, wanted, "{entries:?}");
+        };
+        for (side, row) in [(1, 2), (2, 1), (2, 3)] {
+            refused(b'N', &[(side, row)], "22");
+            refused(b'B', &[(side, row)], "11");
+            refused(b'N', &[(side, row), (side, row)], "22");
+            refused(b'N', &[(1, 1), (side, row)], "22");
+            refused(b'N', &[(side, row), (0, 0)], "22");
+            refused(b'N', &[(side, row), (1, 0)], "22");
+            refused(b'N', &[(0, 0), (side, row)], "13");
+            refused(b'N', &[(side, 4), (side, row)], "15");
+        }
+        refused(b'L', &[(1, 2)], "11");
+        refused(b'L', &[(2, 1)], "22");
+        refused(b'L', &[(2, 1), (1, 2)], "22");
+        refused(b'L', &[(1, 2), (2, 1)], "11");
+        refused(b'R', &[(1, 2), (2, 2)], "22");
+        refused(b'B', &[], "0");
+        assert_eq!(told_of(b'N', &[(1, 1), (2, 2), (1, 3)]), ("0".to_string(), vec![1, 2, 0, 3, 1, 2]));
+        assert_eq!(told_of(b'N', &[(1, 1), (1, 1), (1, 1)]), ("0".to_string(), vec![1, 2, 1, 3, 0, 2]));
     }
 
     #[test]

@@ -41,6 +41,11 @@ pub fn hold(record: &[u8], letter: impl Display) -> String {
     format!("hold {} {letter}", hex(record))
 }
 
+/// The flag is 1 to pin and 0 to unpin.
+pub fn pin(record: &[u8], side: impl Display, row: impl Display, flag: impl Display) -> String {
+    format!("pin {} {side} {row} {flag}", hex(record))
+}
+
 /// The packing of a made record's lists under its hold; n is given apart from them.
 pub fn pack(n: impl Display, made: &Made, out: &[u8]) -> String {
     let lists = [&made.left, &made.right, &made.links].map(|list| commas(list)).join(" ");

@@ -62,6 +62,31 @@ impl Made {
     pub fn present_order(&self, side: u16) -> Vec<u16> {
         self.order_of(side, self.layout(side))
     }
+
+    /// Pins a row as it stands.
+    pub fn pin(&mut self, side: u16, row: usize) {
+        self.layout_mut(side)[row - 1] |= 2;
+    }
+
+    /// The same with every row pinned as it stands whose number the step divides; with 1, all of them.
+    pub fn every_pinned(mut self, step: usize) -> Made {
+        for row in (step..self.n as usize).step_by(step) {
+            self.pin(1, row);
+            self.pin(2, row);
+        }
+        self
+    }
+
+    pub fn all_pinned(self) -> Made {
+        self.every_pinned(1)
+    }
+
+    pub fn none_pinned(mut self) -> Made {
+        for side in [1, 2] {
+            self.layout_mut(side).iter_mut().for_each(|byte| *byte &= 1);
+        }
+        self
+    }
 }
 
 /// A record from its rows; links are the identity and layouts all 0, as in most of the examples.
@@ -119,7 +144,7 @@ pub fn of_shape(shape: &str, n: usize, random: &mut Random) -> Option<Made> {
     Some(made)
 }
 
-/// A good record of any kind over n leaves, often held.
+/// A good record of any kind over n leaves, often held, often with rows that are pinned.
 pub fn any_record(n: usize, random: &mut Random) -> Made {
     let left = shapes::any_tree(n, random);
     let right = if random.chance(250) { left.clone() } else { shapes::any_tree(n, random) };
@@ -130,7 +155,32 @@ pub fn any_record(n: usize, random: &mut Random) -> Made {
         made.right_layout = any_layout(n, random);
     }
     made.links = any_links(&made, random);
+    if n > 1 && random.chance(400) {
+        pin_any_rows(&mut made, random);
+    }
     made
+}
+
+/// Pins a few rows as they stand, or about half of them, or a side, or all.
+fn pin_any_rows(made: &mut Made, random: &mut Random) {
+    let rows = made.n as usize - 1;
+    let side = 1 + random.below(2) as u16;
+    match random.below(20) {
+        0 => *made = made.clone().all_pinned(),
+        1 => (1..=rows).for_each(|row| made.pin(side, row)),
+        2..=4 => {
+            for row in 1..=rows {
+                if random.chance(500) {
+                    made.pin(1 + random.below(2) as u16, row);
+                }
+            }
+        }
+        _ => {
+            for _ in 0..1 + random.below(3) {
+                made.pin(1 + random.below(2) as u16, 1 + random.below(rows));
+            }
+        }
+    }
 }
 
 /// Links of any kind: shuffled, the identity, backwards, or after the orders of the two sides.

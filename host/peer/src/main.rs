@@ -4,6 +4,7 @@
 //   peer calls SEED COUNT      writes so many lines of calls
 //   peer sheet                 what `sheet` prints for the record on standard input
 //   peer record SHAPE N SEED   one good record; SHAPE is balanced, caterpillar, random or straight
+//   peer pinned SHAPE N SEED STEP   the same with rows STEP, 2 STEP and so on of both sides pinned
 //   peer displaced N D SEED    one good record whose displacement is D
 //   peer speed CALL            nanoseconds per call; CALL is check, count, free or run
 
@@ -16,6 +17,7 @@ mod crossings;
 mod desk;
 mod displaced;
 mod edges;
+mod every_call;
 mod faults;
 mod firmware;
 mod lines;
@@ -25,6 +27,8 @@ mod merge;
 mod merge_edges;
 mod newick;
 mod newick_edges;
+mod pin_edges;
+mod pins;
 mod quick;
 mod random;
 mod ratio_edges;
@@ -45,8 +49,8 @@ use std::process::ExitCode;
 use random::Random;
 
 const USAGE: &str =
-    "usage: peer answers | calls SEED COUNT | sheet | record SHAPE N SEED | displaced N D SEED | \
-    speed check|count|free|run";
+    "usage: peer answers | calls SEED COUNT | sheet | record SHAPE N SEED | pinned SHAPE N SEED STEP | \
+    displaced N D SEED | speed check|count|free|run";
 
 fn read_at_most(bytes: u64) -> io::Result<Vec<u8>> {
     let mut input = Vec::new();
@@ -73,10 +77,14 @@ fn leaves(word: &str) -> io::Result<usize> {
     }
 }
 
-fn one_record(shape: &str, n: &str, seed: &str, out: &mut impl Write) -> io::Result<()> {
-    match made::of_shape(shape, leaves(n)?, &mut Random::new(number(seed)?)) {
-        Some(record) => out.write_all(&record.bytes()),
-        None => Err(io::Error::other(USAGE)),
+fn one_record(shape: &str, n: &str, seed: &str) -> io::Result<made::Made> {
+    made::of_shape(shape, leaves(n)?, &mut Random::new(number(seed)?)).ok_or(io::Error::other(USAGE))
+}
+
+fn pinned_record(made: made::Made, step: &str, out: &mut impl Write) -> io::Result<()> {
+    match number(step)? {
+        0 => Err(io::Error::other("STEP is 1 or more")),
+        step => out.write_all(&made.every_pinned(step as usize).bytes()),
     }
 }
 
@@ -101,7 +109,8 @@ fn command(words: &[&str], out: &mut impl Write) -> io::Result<()> {
         ["answers"] => answers(out)?,
         ["calls", seed, count] => calls::write(number(seed)?, number(count)?, out)?,
         ["sheet"] => write!(out, "{}", sheet::sheet(read_at_most(sheet::ENOUGH)?))?,
-        ["record", shape, n, seed] => one_record(shape, n, seed, out)?,
+        ["record", shape, n, seed] => out.write_all(&one_record(shape, n, seed)?.bytes())?,
+        ["pinned", shape, n, seed, step] => pinned_record(one_record(shape, n, seed)?, step, out)?,
         ["displaced", n, d, seed] => displaced_record(n, d, seed, out)?,
         ["speed", call] => speed(call, out)?,
         _ => return Err(io::Error::other(USAGE)),

@@ -59,7 +59,14 @@ const AROUND: &str = "\
     squaredentanglement R|Squared_entanglement R|squared R|_entanglement R|thousandths|thousandths |thousandths R R|\
     thousandths R 0|thousandths R -|thousandths  R| thousandths R|thousandths R |thousandths R0|thousandths R,R|\
     thousandths -R|thousandths R\r|Thousandths R|thousandth R|thousandthss R|thousands R|thousandths_ R|\
-    entanglement_thousandths R|thousandths_entanglement R|thousandths 0|thousandths --";
+    entanglement_thousandths R|thousandths_entanglement R|thousandths 0|thousandths --|\
+    pin|pin |pin R|pin R 1|pin R 1 1|pin R 1 1 |pin R 1 1 -|pin R 1 1 1 1|pin R 1 1 1 |pin  R 1 1 1| pin R 1 1 1|\
+    pin R  1 1 1|pin R 1  1 1|pin R 1 1  1|pin R 1 1 +1|pin R 1 1 -1|pin R 1 1 -0|pin R 1 1 1,|pin R 1 1 1.|\
+    pin R 1 1 1a|pin R 1 1 0x1|pin R 1 1 1:1|pin R 1 1 true|pin R 1 1 N|pin R 1 1 1\r|pin R 1 1 1\t|pin R 1:1 1|\
+    pin R 1:1 1 1|pin R 1,1 1|pin R - 1 1|pin R 1 - 1|pin R -1 1 1|pin R 1 -1 1|pin R 1 1a 1|pin R 1a 1 1|\
+    pin R 65536 1 1|pin R 65537 1 1|pin R 1 65536 1|pin R 1 65537 1|pin R 4294967297 1 1|pin R 1 4294967297 1|\
+    pin R 1 18446744073709551617 1|pin R0 1 1 1|pin R, 1 1 1|pin 1 R 1 1|pin 1 1 1 R|pin - 3 0 2|pin - 0 65536 1|\
+    pin 00 1 1 2|pin - - - -|Pin R 1 1 1|PIN R 1 1 1|pins R 1 1 1|pi R 1 1 1|unpin R 1 1|unpin R 1 1 1|pin R 1 1 2";
 
 /// Fixed lines around one good record (its hexadecimal digits).
 pub fn fixed(record: &str) -> Vec<String> {

@@ -3,6 +3,7 @@
 // before the buffer (14). The groups that are open stand in a list, so that a text may be as
 // deep and as long as it likes.
 
+use crate::pins;
 use crate::record::{self, Row, Side, MOST_LEAVES};
 use crate::refusals::{self, Refusal};
 use crate::room;
@@ -172,7 +173,7 @@ fn object_text(rows: &[Row], layout: &[u8], object: usize) -> String {
     }
     let index = object - n - 1;
     let [upper, lower] = rows[index].map(|child| object_text(rows, layout, child as usize));
-    if layout[index] == 1 {
+    if pins::is_turned(layout[index]) {
         format!("({lower},{upper})")
     } else {
         format!("({upper},{lower})")

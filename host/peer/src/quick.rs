@@ -4,6 +4,7 @@
 // `answers` uses the definitions, and the tests below compare the two.
 
 use crate::crossings::Seen;
+use crate::pins;
 use crate::record::{self, Record, Side, MOST_LEAVES};
 use crate::refusals::{self, Refusal};
 use crate::tree;
@@ -46,13 +47,14 @@ fn free_side(record: &mut Record, side: Side, sets: &mut Sets) -> (u32, u32) {
         let [upper, lower] = record.rows(side)[index].map(|child| child as usize);
         let as_given = pairs_past(&sets[upper], &sets[lower]);
         let turned_over = sets[upper].1 * sets[lower].1 - as_given;
-        let turned = record.layout(side)[index] == 1;
+        let turned = pins::is_turned(record.layout(side)[index]);
         let (own, others) = if turned { (turned_over, as_given) } else { (as_given, turned_over) };
-        if others < own {
+        let gains = others < own && !record.is_pinned(side, index);
+        if gains {
             record.turn(side, index);
         }
         before += own;
-        after += own.min(others);
+        after += if gains { others } else { own };
         sets[record.n + index + 1] = both(&sets[upper], &sets[lower]);
     }
     (before, after)

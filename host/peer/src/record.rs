@@ -3,6 +3,7 @@
 // files speak of rows, links and layouts only. Rows, links and layouts are kept in arrays
 // for the most leaves there can be; only the first n-1 or n places are in use.
 
+use crate::pins;
 use crate::refusals::{self, Refusal};
 use crate::room;
 use crate::tree;
@@ -68,9 +69,27 @@ impl Record {
         &self.layouts[side as usize][..self.n - 1]
     }
 
-    /// Turns the row at this index over, from its present byte.
+    /// The index of a row, or refusal 15.
+    pub fn index(&self, row: u16) -> Result<usize, Refusal> {
+        if row == 0 || row as usize > self.n - 1 {
+            return Err(refusals::ROW);
+        }
+        Ok(row as usize - 1)
+    }
+
+    /// Turns the row at this index over, from its present byte; a pin stays.
     pub fn turn(&mut self, side: Side, index: usize) {
         self.layouts[side as usize][index] ^= 1;
+    }
+
+    pub fn is_pinned(&self, side: Side, index: usize) -> bool {
+        pins::is_pinned(self.layout(side)[index])
+    }
+
+    /// Pins or unpins the row at this index.
+    pub fn set_pin(&mut self, side: Side, index: usize, pinned: bool) {
+        let byte = &mut self.layouts[side as usize][index];
+        *byte = pins::with_pin(*byte, pinned);
     }
 
     pub fn held(&self, side: Side) -> bool {
@@ -92,7 +111,7 @@ impl Record {
             return Err(refusals::LINKS);
         }
         let bytes_of = |side| self.layout(side).iter();
-        if bytes_of(Side::Left).chain(bytes_of(Side::Right)).any(|&byte| byte > 1) {
+        if bytes_of(Side::Left).chain(bytes_of(Side::Right)).any(|&byte| byte > pins::MOST) {
             return Err(refusals::LAYOUT);
         }
         Ok(())

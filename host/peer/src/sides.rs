@@ -1,21 +1,30 @@
-// The fixed calls of a call that writes a side of a record into a buffer: every side, on good
-// records and on faulty ones, with room and without.
+// The fixed calls of a call that writes a side of a record into a buffer: every side on good records,
+// those about 1 and 2 on faulty ones, with room and without; and the others on faulty ones.
 
 use crate::faults;
 use crate::made::case_2;
 
+/// Sides that are not about 1 and 2.
+const FAR: [u16; 4] = [256, 257, 258, 65535];
+
+/// Such sides on faulty records; `line` writes a call by its record and its side.
+pub fn far_off(line: impl Fn(&[u8], u16) -> String) -> Vec<String> {
+    let on = |record: Vec<u8>| FAR.map(|side| line(&record, side));
+    faults::one_of_each().into_iter().flat_map(on).collect()
+}
+
 /// `line` writes a call by its record, its side and its places; case 2's sides want `room` of them.
 pub fn of_a_writing_call(room: usize, line: impl Fn(&[u8], u16, usize) -> String) -> Vec<String> {
     let mut calls = Vec::new();
-    for side in [0, 1, 2, 3, 256, 257, 258, 65535] {
+    for side in [0, 1, 2, 3].into_iter().chain(FAR) {
         for hold in *b"NLRB" {
             let mut made = case_2();
             made.hold = hold;
             calls.push(line(&made.bytes(), side, room));
         }
-        for record in faults::one_of_each() {
-            calls.push(line(&record, side, 0));
-        }
+    }
+    for record in faults::one_of_each() {
+        calls.extend([0, 1, 2, 3].map(|side| line(&record, side, 0)));
     }
     for record in faults::one_of_each() {
         calls.push(line(&record, 1, room - 1));
@@ -34,7 +43,7 @@ pub fn refuses_as_a_writing_call(room: usize, call: impl Fn(&[u8], u16, usize) -
     let mut bad_row = case_2();
     bad_row.right[5] = 1;
     let mut bad_layout = case_2();
-    bad_layout.left_layout[1] = 2;
+    bad_layout.left_layout[1] = 4;
     let (bad_row, bad_layout) = (bad_row.bytes(), bad_layout.bytes());
     let calls = [
         (&good[..], 0, 0, "13"),

@@ -12,7 +12,8 @@ pub type Pieces = Vec<Vec<u8>>;
 pub fn tree(rows: &[u16], layout: &[u8]) -> Pieces {
     let n = layout.len() + 1;
     let mut objects: Vec<Pieces> = (1..=n).map(|leaf| vec![leaf.to_string().into_bytes()]).collect();
-    for (row, &turned) in rows.chunks(2).zip(layout) {
+    for (row, byte) in rows.chunks(2).zip(layout) {
+        let turned = byte % 2;
         let mut first = std::mem::take(&mut objects[row[turned as usize] as usize - 1]);
         let mut second = std::mem::take(&mut objects[row[1 - turned as usize] as usize - 1]);
         first.insert(0, b"(".to_vec());

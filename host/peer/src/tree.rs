@@ -4,6 +4,7 @@
 // An order is compatible by its published definition: the leaves under each object form an
 // interval.
 
+use crate::pins;
 use crate::record::{Row, MOST_LEAVES};
 
 const MOST_OBJECTS: usize = 2 * MOST_LEAVES;
@@ -43,12 +44,12 @@ fn add_leaf_order(rows: &[Row], layout: &[u8], object: usize, order: &mut Vec<u1
     }
     let index = object - n - 1;
     let [upper, lower] = rows[index];
-    if layout[index] == 0 {
-        add_leaf_order(rows, layout, upper as usize, order);
+    if pins::is_turned(layout[index]) {
         add_leaf_order(rows, layout, lower as usize, order);
+        add_leaf_order(rows, layout, upper as usize, order);
     } else {
-        add_leaf_order(rows, layout, lower as usize, order);
         add_leaf_order(rows, layout, upper as usize, order);
+        add_leaf_order(rows, layout, lower as usize, order);
     }
 }
 
@@ -76,8 +77,7 @@ pub fn places(rows: &[Row], layout: &[u8]) -> [u16; MOST_LEAVES] {
     let leaves = leaf_numbers(rows);
     let mut begins = [0; MOST_OBJECTS];
     for (index, &[upper, lower]) in rows.iter().enumerate().rev() {
-        let turned = layout[index] == 1;
-        let (first, second) = if turned { (lower, upper) } else { (upper, lower) };
+        let (first, second) = if pins::is_turned(layout[index]) { (lower, upper) } else { (upper, lower) };
         let begin = begins[n + index + 1];
         begins[first as usize] = begin;
         begins[second as usize] = begin + leaves[first as usize];
