@@ -22,6 +22,7 @@ pub enum Call {
     NewickWrite,
     MergeRead,
     MergeWrite,
+    Pin,
     NoCall,
 }
 
@@ -31,7 +32,7 @@ pub fn named(name: &[u8]) -> Call
 {
     let names =
         b"check order count pairs squared_entanglement thousandths free run hands better better_check hold pack unpack \
-          newick_read newick_write merge_read merge_write";
+          newick_read newick_write merge_read merge_write pin";
     match place(names, name) {
         0 => Call::Check,
         1 => Call::Order,
@@ -51,6 +52,7 @@ pub fn named(name: &[u8]) -> Call
         15 => Call::NewickWrite,
         16 => Call::MergeRead,
         17 => Call::MergeWrite,
+        18 => Call::Pin,
         _ => Call::NoCall,
     }
 }
@@ -78,6 +80,7 @@ pub fn words(call: Call) -> usize
         Call::NewickWrite => 4,
         Call::MergeRead => 4,
         Call::MergeWrite => 4,
+        Call::Pin => 5,
         Call::NoCall => 0,
     }
 }

@@ -1,4 +1,4 @@
-// The calls that may change a record: free, run, hands and hold. Each answers its numbers, then the record's bytes.
+// The calls that may change a record: free, run, hands, hold and pin. Each answers its numbers, then the record's bytes.
 use calls_turns::answers::Freed;
 use calls_turns::answers::Ran;
 use desk_words::lists::hands as hands_in;
@@ -69,5 +69,23 @@ pub fn hold(line: &[u8], s: &mut [u8]) {
         return no_call();
     }
     let answer = record::set_hold(s, letter as u8);
+    done(answer.number, answer.row, s)
+}
+
+// pin RECORD SIDE ROW FLAG -> NUMBER RECORD
+pub fn pin(line: &[u8], s: &mut [u8]) {
+    let side = number(word(line, 2), 65535);
+    if 65535 < side {
+        return no_call();
+    }
+    let row = number(word(line, 3), 65535);
+    if 65535 < row {
+        return no_call();
+    }
+    let flag = number(word(line, 4), 1);
+    if 1 < flag {
+        return no_call();
+    }
+    let answer = calls_pins::pin(s, side as u16, row as u16, flag == 1);
     done(answer.number, answer.row, s)
 }

@@ -46,6 +46,7 @@ fn make(call: Call, line: &[u8], s: &mut [u8], xs: &mut [u16]) {
         Call::Run => changing::run(line, s),
         Call::Hands => changing::hands(line, s),
         Call::Hold => changing::hold(line, s),
+        Call::Pin => changing::pin(line, s),
         Call::Pack => desk_parts::pack(line, s, xs),
         Call::MergeRead => desk_merge::merge_read(line, xs),
         Call::MergeWrite => desk_merge::merge_write(line, s),

@@ -23,8 +23,12 @@ use Rattle.record_fields.specs.Refusals.{all, isMark, isHold, noSize, breaksRul
 use Rattle.record_fields.specs.Refusals.{refusal}
 use Rattle.record_fields.specs.Told.{rowFor, toldOf}
 use Rattle.record_arrays.specs.Sides.{isSide, holds}
+use Rattle.record_arrays.specs.Rows.{noRow}
 use Rattle.record_arrays.specs.Shown.{shownDisplacement}
 use Rattle.calls_turns.specs.Refusals.{noAllowance, freeRefusal, runRefusal}
+use Rattle.calls_hands.specs.Refusals.{handRefusal, entriesRefusal, handsRefusal}
+use Rattle.calls_hands.specs.Calls.{handed}
+use Rattle.calls_pins.specs.Refusals.{pinRefusal}
 use Rattle.calls_show.specs.declared.answers.InThousandths.{InThousandths}
 use Rattle.calls_show.specs.declared.answers.InThousandths.the-variants as in-thousandths
 use Rattle.calls_show.specs.Calls.{squaredEntanglement, TellsThousandths}
@@ -89,6 +93,7 @@ unfolding order write leaves deep object count place range over across pairs cho
     headingRefusal refusal rowFor isSide holds noAllowance freeRefusal runRefusal squaredEntanglement
     textRead leafNumbers rowsOf keepsGrammar said isNumbered newickReadRefusal sentenceOf textOf writtenText
     namedBy entryFor namesNone rowsIn tableFor any someNone amongEntries twice mergeReadRefusal writtenTable
+    noRow pinRefusal handRefusal entriesRefusal handsRefusal handed
 examples = record {
   table = refl;
   in-thousandths = all-told list.examples refl;
@@ -96,4 +101,6 @@ examples = record {
   texts-written = refl;
   tables-read = refl;
   tables-written = refl;
+  pins = refl;
+  hands = refl;
 }

@@ -130,7 +130,7 @@ module _ (s : List ℕ) (side row : ℕ) (pinned : Bool) where
       mayChange (rowByte s′ (sideOf side) row) ≡ not pinned
   pins-it s′ e q =
       let h = pinning-good s side row e in
-      let made = q ∙ rw (eq-eqb (pinRefusal s side row) 0 e) refl in
+      let made : s′ ≡ relaid s (pinnedLayouts s side row pinned) = q ∙ rw (eq-eqb (pinRefusal s side row) 0 e) refl in
       ap (λ r. mayChange (rowByte r (sideOf side) row)) made ∙ pins (h .1) (h .2 .0) (h .2 .1)
 
   -- the same turnings give the same orders, and these the same count

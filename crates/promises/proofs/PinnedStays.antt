@@ -20,6 +20,7 @@ use Rattle.record_fields.proofs.Acceptance.{accepted-sized, accepted-heading, h
 use Rattle.record_fields.proofs.Meaning.{accepted-fair, accepted-fits, fits-long, layouts-of-relaid, relaid-same}
 use Rattle.record_fields.proofs.Rehold.{parts-rehold}
 use Rattle.record_arrays.specs.Sides.{sideOf}
+use Rattle.record_arrays.specs.Shown.{shownCount}
 use Rattle.record_arrays.proofs.OneRow.{set-keeps}
 use Rattle.calls_turns.specs.declared.answers.Freed.{Freed}
 use Rattle.calls_turns.specs.declared.answers.Ran.{Ran}
@@ -136,7 +137,10 @@ free-all s side answer s′ o all = go (eqb (freeRefusal s side) 0) refl (o .aft
               ∙ ap (λ L. orZero (freeRefusal s side) (crossings (tableOf s) L)) same
               ∙ sym (ap (λ x. x .before) (o .answers)),
         )
-    go false p q = (q, ap (λ x. x .after) (o .answers) ∙ rw p refl ∙ sym (ap (λ x. x .before) (o .answers) ∙ rw p refl))
+    go false p q =
+        let after : answer .after ≡ 0 = ap (λ x. x .after) (o .answers) ∙ rw p refl in
+        let before : answer .before ≡ 0 = ap (λ x. x .before) (o .answers) ∙ rw p refl in
+        (q, after ∙ sym before)
 
 module _ (s : List ℕ) (allowance : ℕ) (all : (side : Side) → AllPinned s side) where
   run-same : runRefusal s allowance ≡ 0 → ranTo s allowance .last ≡ layoutsOf s
@@ -158,10 +162,12 @@ module _ (s : List ℕ) (allowance : ℕ) (all : (side : Side) → AllPinned s s
       let ends : ranTo s allowance ≡ record { last = layoutsOf s; turns = 2; settled = true } =
       run-standing (crossings (tableOf s)) (free (tableOf s)) allowance (layoutsOf s) (λ side. stands s a side (all side)) two in
       let none = eq-eqb (runRefusal s allowance) 0 e in
+      let first : answer .first ≡ shownCount s = ap (λ x. x .first) (o .answers) ∙ rw none refl in
+      let last : answer .last ≡ shownCount s = ap (λ x. x .last) (o .answers) ∙ rw (none, ends) refl in
       record {
         two-turns = ap (λ x. x .turns) (o .answers) ∙ rw (none, ends) refl;
         settled = ap (λ x. x .settled) (o .answers) ∙ rw (none, ends) refl;
-        same-count = ap (λ x. x .last) (o .answers) ∙ rw (none, ends) refl ∙ sym (ap (λ x. x .first) (o .answers) ∙ rw none refl);
+        same-count = last ∙ sym first;
       }
 
 pub pinned-stays : PinnedStays.PinnedStays

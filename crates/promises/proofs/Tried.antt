@@ -2,6 +2,7 @@
 use Prim.Native.Nat.{ℕ, pred, _-_, _*_, _<_}
 use mathlib.Core.Path.{_≡_, refl, sym, ap, _∙_}
 use mathlib.Core.Logic.{_⊎_, ⊎-elim}
+use mathlib.Core.Bool.{true, false, true≢false, false≢true}
 use mathlib.Core.List.{List, [], _∷_}
 use mathlib.Core.Option.{Option·some-ne-none}
 use native.Mathlib.Omega.{arith}
@@ -9,7 +10,7 @@ use borrow.Author.Tests.{ne-eqb}
 use lib.ListN.{getD}
 use Rattle.tanglegram.specs.Lists.{place, range}
 use Rattle.tanglegram.specs.Tree.{leaves, deep, object, used, Row}
-use Rattle.tanglegram.specs.Order.{order, write}
+use Rattle.tanglegram.specs.Order.{order, write, turned, mayChange}
 use Rattle.tanglegram.specs.Crossings.{over, across, pairs, count}
 use Rattle.tanglegram.specs.Freeing.{choose, freed}
 use Rattle.tanglegram.specs.Run.{left, after}
@@ -35,26 +36,50 @@ use Rattle.merge.specs.Entries.{Names, namedBy, namesNone}
 use Rattle.merge.specs.Tables.{rowsIn, any, someNone, amongEntries, twice}
 use Rattle.merge.proofs.Entries.{named-one}
 use Rattle.record_fields.specs.Meaning.{rowsOn}
-use Rattle.record_arrays.specs.Sides.{sideOf}
+use Rattle.record_arrays.specs.Sides.{sideOf, isSide, holds}
+use Rattle.record_arrays.specs.Rows.{noRow, rowByte}
+use Rattle.calls_hands.specs.Refusals.{hand, handRefusal, entriesRefusal, handsRefusal}
 use Rattle.calls_merge.specs.Refusals.{mergeReadRefusal}
 use Rattle.promises.specs.Cases.{recordOf, case2Freed}
 use Rattle.promises.specs.MergeExamples.{plus, example1}
 use Rattle.promises.proofs.Merge.{told-number}
 use Rattle.promises.specs.Newick.{ReadAs}
-use Rattle.promises.specs.Tried.{tied, byte2, cleared, bothBad, goodText, badText, nines, twiceThenZero, ownRow, leafTwice, Tried}
+use Rattle.promises.specs.Tried.{tied, byte4, tiedPinned, pinnedRoot, rootMoved, pinnedHeld, case2Record, pinnedOver, cleared, bothBad, goodText, badText, nines, twiceThenZero, ownRow, leafTwice, Tried}
 
--- the record is accepted, and with the byte 2 it is refused
-refusals : (refusal tied ≡ 0) × (refusal byte2 ≡ 10)
+-- the record is accepted, and with the byte 4 it is refused
+refusals : (refusal tied ≡ 0) × (refusal byte4 ≡ 10)
 unfolding range used among first badRow numbers split partsOf packed relaid all isMark isHold noSize breaksRule oneToOne isLayout
     contentsRefusal headingRefusal refusal
 refusals = (refl, refl)
 
 -- the left root's byte
-root : FreeKeeps tied left byte2 → (_≡_ {A = ℕ} 2 1) ⊎ (_≡_ {A = ℕ} 2 0)
+root : FreeKeeps tied left byte4 → (_≡_ {A = ℕ} 4 1) ⊎ (_≡_ {A = ℕ} 4 0)
 unfolding deep object numbers split partsOf packed relaid range
 root k = k .turned-or-kept .0
 
-same : shownCount byte2 ≡ shownCount tied
+-- the same where it is pinned; and the left root of example 3 pinned, where it is the third row's byte
+pinned-root : FreeKeeps tied left tiedPinned → (_≡_ {A = ℕ} 2 1) ⊎ (_≡_ {A = ℕ} 2 0)
+unfolding deep object numbers split partsOf packed range
+pinned-root k = k .turned-or-kept .0
+
+third-row : FreeKeeps pinnedRoot left rootMoved → false ≡ true
+unfolding deep object numbers split partsOf packed range
+third-row k = k .turned-exactly .0 .0 refl .0
+
+-- what the records' bytes say
+row-bytes : (rowByte pinnedRoot left 3 ≡ 2) × (rowByte rootMoved left 3 ≡ 3) × (rowByte tied left 2 ≡ 0) × (rowByte tiedPinned left 2 ≡ 2)
+    × (rowByte case2Record left 3 ≡ 0) × (rowByte pinnedOver left 3 ≡ 3)
+unfolding numbers split partsOf packed range
+row-bytes = (refl, refl, refl, refl, refl, refl)
+
+-- a held and pinned record is accepted, and has the row; what hand lists on it tell
+pinned-numbers : (refusal pinnedHeld ≡ 0) × (noRow (sizeOf pinnedHeld) 3 ≡ false) × (isSide 1 ≡ true)
+    × (handsRefusal pinnedRoot (hand 1 3 ∷ []) ≡ 22) × (handsRefusal pinnedHeld (hand 1 3 ∷ []) ≡ 11)
+unfolding range used among first badRow numbers split partsOf packed all isMark isHold noSize breaksRule oneToOne isLayout
+    contentsRefusal headingRefusal refusal isSide holds noRow handRefusal entriesRefusal handsRefusal
+pinned-numbers = (refl, refl, refl, refl, refl)
+
+same : shownCount byte4 ≡ shownCount tied
 unfolding order leaves deep object count place range over across pairs used numbers split partsOf packed relaid
 same = refl
 
@@ -140,6 +165,16 @@ tried = record {
   no-record-afterwards = λ k. let again = k .same-trees .accepted-again (refusals .0) in omega (arith, again, refusals .1);
   same-count = same;
   byte-neither-turned-nor-kept = λ k. ⊎-elim (λ e. omega (arith, e)) (λ e. omega (arith, e)) (root k);
+  pinned-row-turned = λ k. false≢true (third-row k);
+  pinned-row-moved = λ k.
+      let e = k .pinned-stays left 3 (ap mayChange (row-bytes .0)) in omega (arith, e, row-bytes .0, row-bytes .1);
+  pinned-in-place-of-freed = λ k. ⊎-elim (λ e. omega (arith, e)) (λ e. omega (arith, e)) (pinned-root k);
+  pinned-by-the-way = λ k. false≢true (sym (ap mayChange (row-bytes .3)) ∙ k .same-pins left 2 ∙ ap mayChange (row-bytes .2));
+  pins-nothing = λ k. true≢false (sym (ap mayChange (row-bytes .4)) ∙ k .pins-the-row refl);
+  pins-and-turns = λ k. true≢false (sym (ap turned (row-bytes .5)) ∙ k .keeps-the-turnings left 3 ∙ ap turned (row-bytes .4));
+  held-not-pinned = λ k. let e = k .or-none (pinned-numbers .2) (pinned-numbers .0) (pinned-numbers .1) in omega (arith, e);
+  hand-on-a-pin = λ s′ k. let e = ap (λ r. r .number) (k .answers) in omega (arith, e, pinned-numbers .3);
+  pin-before-hold = λ s′ k. let e = ap (λ r. r .number) (k .answers) in omega (arith, e, pinned-numbers .4);
   settled-after-a-gain = λ answer s′ t e k.
       let s = recordOf gainsInTurn2 in
       let same = ap (countAfter s) (sym t) ∙ k .last-gained-nothing e ∙ ap (λ j. countAfter s (pred j)) t in

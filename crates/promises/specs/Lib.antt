@@ -16,6 +16,7 @@ pub mod Newick
 pub mod Merge
 pub mod Cases
 pub mod MergeExamples
+pub mod PinExamples
 pub mod Examples
 pub mod Tried
 pub mod Promises

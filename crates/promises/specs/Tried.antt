@@ -2,10 +2,11 @@
 use Prim.Native.Nat.{ℕ, _≤_}
 use mathlib.Core.Path.{_≡_}
 use mathlib.Core.Logic.{_≢_}
+use mathlib.Core.Bool.{true}
 use mathlib.Core.List.{List, [], _∷_}
 use lib.IntN.{ℤ}
 use Rattle.tanglegram.specs.Run.{left}
-use Rattle.tanglegram.specs.Examples.{bytesOf, case2, rootsTie, gainsInTurn2, oneLeaf}
+use Rattle.tanglegram.specs.Examples.{bytesOf, case2With, case2, rootPinned, rootsTie, gainsInTurn2, oneLeaf}
 use Rattle.record_fields.specs.Fields.{Parts, given}
 use Rattle.record_fields.specs.Meaning.{relaid}
 use Rattle.record_fields.specs.Refused.{refused}
@@ -14,28 +15,55 @@ use Rattle.record_arrays.specs.Shown.{shownCount}
 use Rattle.calls_show.specs.declared.answers.InThousandths.the-variants as in-thousandths
 use Rattle.calls_show.specs.Calls.{TellsThousandths}
 use Rattle.calls_turns.specs.declared.answers.Ran.{Ran}
+use Rattle.calls_hands.specs.Refusals.{hand}
+use Rattle.calls_hands.specs.Calls.{Hands}
 use Rattle.calls_better.specs.Refusals.{betterRefusal}
 use Rattle.calls_better.specs.Calls.{betterWhich, Address, Betters}
 use Rattle.promises.specs.HeldStays.{Keeps}
+use Rattle.promises.specs.PinnedStays.{PinsKept}
+use Rattle.promises.specs.PinOnly.{PinOnly}
 use Rattle.promises.specs.Demand2.{FreeKeeps}
 use Rattle.promises.specs.Demand3.{RunKeeps}
 use Rattle.promises.specs.Entanglement.{ThousandthsKeeps}
 use Rattle.promises.specs.Newick.{Reading, Writing}
 use Rattle.promises.specs.Merge.{TableReading, TableWriting}
-use Rattle.promises.specs.Cases.{recordOf, case2Freed}
+use Rattle.promises.specs.Cases.{heldRecordOf, recordOf, case2Freed}
 use Rattle.promises.specs.MergeExamples.{minus, plus, example1}
 
--- Example 5, whose roots tie, and the same with the left root's byte 2: not the byte that turns it over, though read as turned. The count
+-- Example 5, whose roots tie, and the same with the left root's byte 4: not the byte that turns it over, though read as turned. The count
 -- is the same, so that only what is said of the byte excludes it.
 abbrev pub tied : List ℕ
 tied = recordOf (rootsTie (bytesOf (0 ∷ 0 ∷ []) (0 ∷ 0 ∷ [])))
 
-abbrev pub byte2 : List ℕ
-byte2 = relaid tied (bytesOf (0 ∷ 2 ∷ []) (0 ∷ 0 ∷ []))
+abbrev pub byte4 : List ℕ
+byte4 = relaid tied (bytesOf (0 ∷ 4 ∷ []) (0 ∷ 0 ∷ []))
+
+-- The same with the left root pinned, which makes it the least by leaving no choice.
+abbrev pub tiedPinned : List ℕ
+tiedPinned = recordOf (rootsTie (bytesOf (0 ∷ 2 ∷ []) (0 ∷ 0 ∷ [])))
 
 -- Example 5 with the layouts at which nothing crosses.
 abbrev pub cleared : List ℕ
 cleared = recordOf (rootsTie (bytesOf (1 ∷ 0 ∷ []) (0 ∷ 1 ∷ [])))
+
+-- Example 3 with the left root pinned as given; and with row 2 and the root turned over, the root pinned as it was: nothing crosses, but
+-- the rack's section has moved.
+abbrev pub pinnedRoot : List ℕ
+pinnedRoot = recordOf rootPinned
+
+abbrev pub rootMoved : List ℕ
+rootMoved = recordOf (case2With (bytesOf (0 ∷ 1 ∷ 3 ∷ []) (0 ∷ 0 ∷ 0 ∷ [])))
+
+-- And with its side held as well.
+abbrev pub pinnedHeld : List ℕ
+pinnedHeld = heldRecordOf 76 rootPinned
+
+-- Example 3 itself, and with the root turned over and pinned.
+abbrev pub case2Record : List ℕ
+case2Record = recordOf case2
+
+abbrev pub pinnedOver : List ℕ
+pinnedOver = recordOf (case2With (bytesOf (0 ∷ 0 ∷ 3 ∷ []) (0 ∷ 0 ∷ 0 ∷ [])))
 
 -- Rows over three leaves of which both break the tree rule: the first by its range, the second by using its entry twice.
 abbrev pub bothBad : Parts
@@ -74,10 +102,23 @@ pub record Tried : Type 0 where
   -- and a row that is left over beside 9.
   pub row-left-over : (P : Parts) (i : ℕ) → 1 ≤ i → SaysRow P 9 i → ⊥
   -- A call that makes a record one that is refused.
-  pub no-record-afterwards : Keeps tied byte2 → ⊥
+  pub no-record-afterwards : Keeps tied byte4 → ⊥
   -- Freeing after which a row's byte is neither the other one nor the same, at the same count.
-  pub same-count : shownCount byte2 ≡ shownCount tied
-  pub byte-neither-turned-nor-kept : FreeKeeps tied left byte2 → ⊥
+  pub same-count : shownCount byte4 ≡ shownCount tied
+  pub byte-neither-turned-nor-kept : FreeKeeps tied left byte4 → ⊥
+  -- Freeing that turns a pinned row over, though that leaves nothing crossing; and any call that does.
+  pub pinned-row-turned : FreeKeeps pinnedRoot left rootMoved → ⊥
+  pub pinned-row-moved : PinsKept pinnedRoot rootMoved → ⊥
+  -- Freeing that pins a row where it should choose: no choice is then less; and any call that does.
+  pub pinned-in-place-of-freed : FreeKeeps tied left tiedPinned → ⊥
+  pub pinned-by-the-way : PinsKept tied tiedPinned → ⊥
+  -- A row said to be pinned that is as it was; one that is pinned and turned over; 11 for a row of a held side, which is pinned already.
+  pub pins-nothing : PinOnly case2Record 1 3 true (refused 0) case2Record → ⊥
+  pub pins-and-turns : PinOnly case2Record 1 3 true (refused 0) pinnedOver → ⊥
+  pub held-not-pinned : PinOnly pinnedHeld 1 3 true (refused 11) pinnedHeld → ⊥
+  -- A hand list over a pinned row that is accepted, whatever becomes of the record; and 22 told where its side is held.
+  pub hand-on-a-pin : (s′ : List ℕ) → Hands pinnedRoot (hand 1 3 ∷ []) (refused 0) s′ → ⊥
+  pub pin-before-hold : (s′ : List ℕ) → Hands pinnedHeld (hand 1 3 ∷ []) (refused 22) s′ → ⊥
   -- A run of example 6 that stops at turn 2, which gained, and calls it settled.
   pub settled-after-a-gain : (answer : Ran) (s′ : List ℕ) → answer .turns ≡ 2 → answer .settled ≡ 1 →
       RunKeeps (recordOf gainsInTurn2) 130818 answer s′ → ⊥

@@ -100,9 +100,13 @@ returns-18 c = at-place 17 _ (sym (c .before .place .ensures) ∙ c .match .keys
 
 returns-19 : tie.Need-returns-19
 unfolding names pieces calls
-returns-19 c =
+returns-19 c = at-place 18 _ (sym (c .before .place .ensures) ∙ c .match .keys19)
+
+returns-20 : tie.Need-returns-20
+unfolding names pieces calls
+returns-20 c =
     let k = c .before .place .result in
-    sym (List·getD-eq-default calls NoCall {n = k} (past k 18 (c .match .rest))) ∙ at-place k _ (sym (c .before .place .ensures))
+    sym (List·getD-eq-default calls NoCall {n = k} (past k 19 (c .match .rest))) ∙ at-place k _ (sym (c .before .place .ensures))
 
 pub named-spec : {M : Type 1} → statement M
 named-spec =
@@ -127,4 +131,5 @@ named-spec =
     returns-16
     returns-17
     returns-18
-    returns-19)
+    returns-19
+    returns-20)

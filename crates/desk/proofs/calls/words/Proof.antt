@@ -61,6 +61,9 @@ enum-told-18 c = search needs
 enum-told-19 : tie.Need-enum-told-19
 enum-told-19 c = search needs
 
+enum-told-20 : tie.Need-enum-told-20
+enum-told-20 c = search needs
+
 returns : tie.Need-returns
 unfolding wordsOf
 returns c = rw (c .enum-told .given .1)
@@ -137,6 +140,10 @@ returns-19 : tie.Need-returns-19
 unfolding wordsOf
 returns-19 c = rw (c .enum-told19 .given .1)
 
+returns-20 : tie.Need-returns-20
+unfolding wordsOf
+returns-20 c = rw (c .enum-told20 .given .1)
+
 pub words-spec : {M : Type 1} → statement M
 words-spec =
     tie.close
@@ -160,6 +167,7 @@ words-spec =
     enum-told-17
     enum-told-18
     enum-told-19
+    enum-told-20
     returns
     returns-2
     returns-3
@@ -178,4 +186,5 @@ words-spec =
     returns-16
     returns-17
     returns-18
-    returns-19)
+    returns-19
+    returns-20)
