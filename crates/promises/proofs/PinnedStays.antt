@@ -177,19 +177,24 @@ pinned-stays = record {
       (λ e.
       let a = freeing-good s side e .1 in
       let F = accepted-fair s a in
-      let fits = accepted-fits s a in
-      (a, free-fits (tableOf s) F (sideOf side) (layoutsOf s) fits, free-pinned (tableOf s) F (sideOf side) (layoutsOf s) fits,
-      free-marks (tableOf s) F (sideOf side) (layoutsOf s) fits));
+      let fits = accepted-fits s a in (
+        a,
+        free-fits (tableOf s) F (sideOf side) (layoutsOf s) fits,
+        free-pinned (tableOf s) F (sideOf side) (layoutsOf s) fits,
+        free-marks (tableOf s) F (sideOf side) (layoutsOf s) fits,
+      ));
   run = λ s allowance answer s′ o.
       either s s′ (ranTo s allowance .last) (runRefusal s allowance) (o .afterwards)
       (λ e.
       let a = running-good s allowance e .1 in
       let F = accepted-fair s a in
       let fits = accepted-fits s a in
-      let is-after = sym (table-run (tableOf s) F allowance (layoutsOf s) fits .is-after) in
-      (a, ran-fits s a allowance,
-      subst (Stay (layoutsOf s)) is-after (after-stay (tableOf s) F (ranTo s allowance .turns) left (layoutsOf s) fits),
-      subst (Marks (layoutsOf s)) is-after (after-marks (tableOf s) F (ranTo s allowance .turns) left (layoutsOf s) fits)));
+      let is-after = sym (table-run (tableOf s) F allowance (layoutsOf s) fits .is-after) in (
+        a,
+        ran-fits s a allowance,
+        subst (Stay (layoutsOf s)) is-after (after-stay (tableOf s) F (ranTo s allowance .turns) left (layoutsOf s) fits),
+        subst (Marks (layoutsOf s)) is-after (after-marks (tableOf s) F (ranTo s allowance .turns) left (layoutsOf s) fits),
+      ));
   hands = λ s hands answer s′ o.
       either s s′ (handed (layoutsOf s) hands) (handsRefusal s hands) (o .afterwards)
       (λ e.

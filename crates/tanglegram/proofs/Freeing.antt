@@ -216,8 +216,10 @@ module _ (w : ℕ → ℕ → ℕ) (t : Tree) (m : ℕ) (r : List·Permᴰ (rows
       by true q = every-byte (λ j. Q (byte (freed w t lay) j) (byte lay j)) h (pred i) (ltb-true (pred i) m q)
       by false q =
           let out = ltb-false (pred i) m q in
-          rw (List·getD-eq-default (freed w t lay) 0 {n = pred i} (omega (arith, out, length-freed w t lay)),
-          List·getD-eq-default lay 0 {n = pred i} (omega (arith, out)))
+          rw (
+            List·getD-eq-default (freed w t lay) 0 {n = pred i} (omega (arith, out, length-freed w t lay)),
+            List·getD-eq-default lay 0 {n = pred i} (omega (arith, out)),
+          )
           none
 
   -- a pinned row's byte is as it was
