@@ -1,4 +1,5 @@
-// The calls that may change a record: free, run, hands, hold and pin. Each answers its numbers, then the record's bytes.
+// The calls that may change a record: free, run, hands, hold and pin. Each answers its numbers, then the record's
+// bytes.
 use calls_turns::answers::Freed;
 use calls_turns::answers::Ran;
 use desk_words::lists::hands as hands_in;

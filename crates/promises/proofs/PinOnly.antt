@@ -105,7 +105,8 @@ module _ (s : List ℕ) (side row : ℕ) (pinned : Bool) where
         same-turning left left i = set-keeps turned (withPin pinned) (turned-withPin pinned) (layoutsOf s .left-bytes) (pred row) (pred i)
         same-turning left right i = refl
         same-turning right left i = refl
-        same-turning right right i = set-keeps turned (withPin pinned) (turned-withPin pinned) (layoutsOf s .right-bytes) (pred row) (pred i)
+        same-turning right right i =
+            set-keeps turned (withPin pinned) (turned-withPin pinned) (layoutsOf s .right-bytes) (pred row) (pred i)
 
     pins : mayChange (rowByte (relaid s (pinnedLayouts s side row pinned)) (sideOf side) row) ≡ not pinned
     pins = ap (λ L. mayChange (byte (layout L (sideOf side)) row)) laid ∙ by (sideOf side)
@@ -126,7 +127,8 @@ module _ (s : List ℕ) (side row : ℕ) (pinned : Bool) where
       subst Kept (sym q) (kept-accepted (h .1) (h .2 .0) (h .2 .1))
   kept s′ false p q = subst Kept (sym q) kept-same
 
-  pins-it : (s′ : List ℕ) → pinRefusal s side row ≡ 0 → s′ ≡ cond (accepted (pinRefusal s side row)) (relaid s (pinnedLayouts s side row pinned)) s →
+  pins-it : (s′ : List ℕ) → pinRefusal s side row ≡ 0 →
+      s′ ≡ cond (accepted (pinRefusal s side row)) (relaid s (pinnedLayouts s side row pinned)) s →
       mayChange (rowByte s′ (sideOf side) row) ≡ not pinned
   pins-it s′ e q =
       let h = pinning-good s side row e in

@@ -202,7 +202,8 @@ pinned-stays = record {
       (a, handed-fits s a hands, pinned-kept s hands e, handed-marks hands (layoutsOf s)));
   set-hold = λ s letter answer s′ o.
       let same = reheld s s′ letter (setHoldRefusal s letter) (o .afterwards) (λ e. holding-accepted s letter e .1) in
-      pins-kept s s′ (λ side row h. ap (λ L. byte (layout L side) row) same) (λ side row. ap (λ L. mayChange (byte (layout L side) row)) same);
+      pins-kept s s′ (λ side row h. ap (λ L. byte (layout L side) row) same)
+      (λ side row. ap (λ L. mayChange (byte (layout L side) row)) same);
   free-all-pinned = free-all;
   run-all-pinned = λ s allowance answer s′ o all.
       run-all s allowance all s′ (eqb (runRefusal s allowance) 0) refl (o .afterwards);

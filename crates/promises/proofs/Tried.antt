@@ -44,7 +44,8 @@ use Rattle.promises.specs.Cases.{recordOf, case2Freed}
 use Rattle.promises.specs.MergeExamples.{plus, example1}
 use Rattle.promises.proofs.Merge.{told-number}
 use Rattle.promises.specs.Newick.{ReadAs}
-use Rattle.promises.specs.Tried.{tied, byte4, tiedPinned, pinnedRoot, rootMoved, pinnedHeld, case2Record, pinnedOver, cleared, bothBad, goodText, badText, nines, twiceThenZero, ownRow, leafTwice, Tried}
+use Rattle.promises.specs.Tried.{tied, byte4, tiedPinned, pinnedRoot, rootMoved, pinnedHeld, case2Record, pinnedOver, cleared}
+use Rattle.promises.specs.Tried.{bothBad, goodText, badText, nines, twiceThenZero, ownRow, leafTwice, Tried}
 
 -- the record is accepted, and with the byte 4 it is refused
 refusals : (refusal tied ≡ 0) × (refusal byte4 ≡ 10)

@@ -22,7 +22,8 @@ pub extern "C" fn tangle_hold(s: &mut [u8], letter: u32) -> TangleRefusal
     }
 }
 
-// Pins a row of a side of any bytes, or unpins it where `pin` is 0: that row's layout byte; or the refusal, and no byte.
+// Pins a row of a side of any bytes, or unpins it where `pin` is 0: that row's layout byte; or the refusal, and no
+// byte.
 #[no_mangle]
 pub extern "C" fn tangle_pin(s: &mut [u8], side: u32, row: u32, pin: u32) -> TangleRefusal
     ensures { λ r. ⌜ PinsForC (now (s .entry)) side row pin r (now (s .exit)) ⌝ }
