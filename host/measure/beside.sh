@@ -1,8 +1,9 @@
 #!/usr/bin/env bash
 # beside.sh COMMIT [TIMES]: speed of check, count, free and run beside what they took at an earlier commit, in one
 # program and by turns, on the same records: balanced, caterpillar and random trees, and straight links from 1 to n, of
-# 64 and of 512 leaves. Prints nanoseconds per call before and now, and the second divided by the first. Ends with 1 if an answer differs, or if a call takes more than TIMES of what it took, 1.05 if it is not
-# given. The first comparison with a commit proves its calls, in a clone under target/beside: some minutes.
+# 64 and of 512 leaves. Prints nanoseconds per call before and now, and the second divided by the first. Ends with 1 if
+# an answer differs, or if a call takes more than TIMES of what it took, 1.05 if it is not given. The first comparison
+# with a commit proves its calls, in a clone under target/beside: some minutes.
 . "$(dirname "$0")/../archive.sh"
 [ $# -ge 1 ] || { echo "usage: beside.sh COMMIT [TIMES]" >&2; exit 2; }
 commit=$(git rev-parse --verify --quiet "$1^{commit}") || { echo "beside.sh: there is no commit $1" >&2; exit 2; }

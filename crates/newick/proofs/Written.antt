@@ -69,6 +69,13 @@ decimal-good a p h = (
 
 -- ---- the sentence of a tree
 
+-- two layouts that turn the same rows give the same sentence
+pub sentence-same : (lay lay′ : List ℕ) → ((i : ℕ) → turned (byte lay i) ≡ turned (byte lay′ i)) → (t : Tree) →
+    sentenceOf lay t ≡ sentenceOf lay′ t
+unfolding sentenceOf
+sentence-same lay lay′ h (leaf a) = refl
+sentence-same lay lay′ h (fork i u l) = rw (h i, sentence-same lay lay′ h u, sentence-same lay lay′ h l) refl
+
 -- what is true of a leaf's number, and of a group if it is true of its two parts
 sentence-true : (P : Sentence → Type 0) (lay : List ℕ) → ((a b : Sentence) → P a → P b → P (group a b none)) →
     (t : Tree) → Each (λ a. P (number (decimal a) none)) (leaves t) → P (sentenceOf lay t)

@@ -21,7 +21,12 @@ use Rattle.record_fields.specs.Refused.{accepted}
 use Rattle.record_fields.specs.Meaning.{tableIn, tableOf, layoutsOf, relaidIn, relaid}
 use Rattle.record_arrays.specs.Sides.{sideOf, RecordOver, layoutAt}
 use Rattle.record_arrays.specs.Rows.{rowByte, withByte}
-use Rattle.record_arrays.specs.Shown.{shownOrder, shownCount}
+use Rattle.record_arrays.specs.Shown.{shownOrder, shownCount, shownDisplacement}
+use Rattle.newick.specs.Writing.{sentenceOf, textOf}
+use Rattle.newick.proofs.Written.{sentence-same}
+use Rattle.calls_better.specs.Refusals.{betterRefusal}
+use Rattle.calls_better.specs.Calls.{countWith, betterPart}
+use Rattle.calls_newick.specs.Refusals.{writtenText}
 use Rattle.record_arrays.proofs.AsItStands.{over-its-leaves, length-part}
 use Rattle.record_arrays.proofs.OneRow.{row-read, row-stored, row-small}
 use Rattle.record_arrays.proofs.OneRow.{put-given, put-layouts, put-parts, put-size, put-hold, set-keeps}
@@ -44,6 +49,7 @@ module _ (s : List ℕ) (side row : ℕ) (pinned : Bool) where
     long : length s′ ≡ length s
     hold : holdOf s′ ≡ holdOf s
     trees : SameTrees s s′
+    same-refusal : refusal s′ ≡ refusal s
     count-between : tableOf s′ .count ≡ tableOf s .count
 
   kept-same : Kept s
@@ -54,6 +60,7 @@ module _ (s : List ℕ) (side row : ℕ) (pinned : Bool) where
     long = refl;
     hold = refl;
     trees = trees-same s;
+    same-refusal = refl;
     count-between = refl;
   }
 
@@ -97,6 +104,7 @@ module _ (s : List ℕ) (side row : ℕ) (pinned : Bool) where
         same-links = ap (λ P. P .links) same-parts;
         accepted-again = λ _. put-given s (sizeOf s) g (sideOf side) row x small .accepted;
       };
+      same-refusal = put-given s (sizeOf s) g (sideOf side) row x small .accepted ∙ sym a;
       count-between = ap (λ P. tableIn P .count) same-parts;
     }
       where
@@ -145,6 +153,31 @@ module _ (s : List ℕ) (side row : ℕ) (pinned : Bool) where
   count-same {s′} k =
       ap₂ (tableOf s′ .count) (orders k left) (orders k right) ∙ ap (λ f. f (shownOrder s left) (shownOrder s right)) (k .count-between)
 
+  displacement-same : {s′ : List ℕ} → Kept s′ → shownDisplacement s′ ≡ shownDisplacement s
+  displacement-same k = rw (orders k left, orders k right, k .trees .same-links, k .trees .same-size) refl
+
+  texts-same : {s′ : List ℕ} → Kept s′ → (x : ℕ) → writtenText s′ x ≡ writtenText s x
+  unfolding writtenText
+  texts-same {s′} k x =
+      let y = sideOf x in
+      ap textOf
+      (sentence-same (layout (layoutsOf s′) y) (layout (layoutsOf s) y) (k .turnings y) (tableOf s′ .tree y)
+      ∙ ap (sentenceOf (layout (layoutsOf s) y)) (k .trees .same-trees y))
+
+  count-with-same : {s′ : List ℕ} → Kept s′ → (y : Side) (xs : List ℕ) → countWith s′ y xs ≡ countWith s y xs
+  count-with-same k left xs = rw (orders k right, k .trees .same-links, k .trees .same-size) refl
+  count-with-same k right xs = rw (orders k left, k .trees .same-links, k .trees .same-size) refl
+
+  better-same : {s′ : List ℕ} → Kept s′ → (y : ℕ) (first second : List ℕ) →
+      (betterRefusal s′ y first second ≡ betterRefusal s y first second) × (betterPart s′ y first second ≡ betterPart s y first second)
+  unfolding betterPart
+  better-same {s′} k y first second =
+      let none = refusal-same y first second in
+      (none, rw (none, count-with-same k (sideOf y) first, count-with-same k (sideOf y) second, k .trees .same-size) refl)
+    where
+      refusal-same : (y : ℕ) (first second : List ℕ) → betterRefusal s′ y first second ≡ betterRefusal s y first second
+      refusal-same y first second = rw (k .same-refusal, k .trees .same-trees (sideOf y), k .trees .same-size) refl
+
 pub pin-only : PinPromise
 pin-only s side row pinned answer s′ o =
     let number = ap (λ a. a .number) (o .answers) in
@@ -159,6 +192,9 @@ pin-only s side row pinned answer s′ o =
       keeps-the-trees = k .trees;
       keeps-the-orders = orders s side row pinned k;
       keeps-the-count = count-same s side row pinned k;
+      keeps-the-displacement = displacement-same s side row pinned k;
+      keeps-the-texts = texts-same s side row pinned k;
+      keeps-better = better-same s side row pinned k;
       bad-side-first = λ h. number ∙ sym (pinning-13 s side row h);
       then-the-record = λ h z. number ∙ sym (pinning-record s side row h z);
       then-the-row = λ h a r. number ∙ sym (pinning-15 s side row h a r);

@@ -6,6 +6,8 @@ use native.Mathlib.Omega.{arith}
 use lib.ListN.{length, take, drop}
 use lib.Seq.{take-at, take-append-seam}
 use Rattle.tanglegram.specs.Lists.{Each}
+use Rattle.tanglegram.specs.Order.{byte}
+use Rattle.tanglegram.specs.Table.{layout}
 use Rattle.record_fields.specs.Told.{rowFor}
 use Rattle.record_fields.specs.declared.refusal.Refusal.{Refusal}
 use Rattle.record_fields.specs.Fields.{holdOf, sizeOf, rightAt, linksAt, leftLayoutAt, rightLayoutAt, lengthOf}
@@ -13,6 +15,7 @@ use Rattle.record_fields.specs.Fields.{Parts, given, parts, partsOf}
 use Rattle.record_fields.specs.Fields.{packed}
 use Rattle.record_fields.specs.Refusals.{refusal}
 use Rattle.record_fields.specs.Refused.{lent}
+use Rattle.record_fields.specs.Meaning.{layoutsIn}
 use Rattle.record_fields.proofs.Stores.{length-numbers, length-bytes}
 use Rattle.record_fields.proofs.Acceptance.{accepted-sized}
 use Rattle.record_fields.proofs.Refused.{lent-accepted}
@@ -110,4 +113,16 @@ read-back s left right links left-layout right-layout small o u a out h answer a
     (ap (λ a. a .number) (q .answers) ∙ k, left-packed (parts s) out answer after q k (length s) (ap length f) ∙ f)
 
 pub round-trip : RoundTrip
-round-trip = record { packed-then-unpacked = there; unpacked-then-packed = read-back }
+round-trip = record {
+  packed-then-unpacked = there;
+  unpacked-then-packed = read-back;
+  pins-packed = λ P out answer after p a side row.
+      let e : packRefusal P out ≡ 0 = sym (ap (λ a. a .number) (p .answers)) ∙ a in
+      let g = shape-good P (packing-good P out e .0) .1 in
+      let f = left-packed P out answer after p e (lengthOf (P .size)) (length-packed P g) in
+      ap (λ Q. byte (layout (layoutsIn Q) side) row) (ap parts f ∙ parts-packed P out e);
+  pins-unpacked = λ s left right links left-layout right-layout o u a side row.
+      let z : unpackRefusal s left right links left-layout right-layout ≡ 0 = sym (ap (λ a. a .refusal .number) (u .answers)) ∙ a in
+      let e = unpack-record s left right links left-layout right-layout z in
+      ap (λ Q. byte (layout (layoutsIn Q) side) row) (parts-in s o e (came-to s left right links left-layout right-layout o u z));
+}

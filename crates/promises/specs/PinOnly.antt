@@ -13,7 +13,10 @@ use Rattle.record_fields.specs.Refusals.{refusal}
 use Rattle.record_fields.specs.declared.refusal.Refusal.{Refusal}
 use Rattle.record_arrays.specs.Sides.{isSide, sideOf, layoutAt}
 use Rattle.record_arrays.specs.Rows.{noRow, rowByte}
-use Rattle.record_arrays.specs.Shown.{shownOrder, shownCount}
+use Rattle.record_arrays.specs.Shown.{shownOrder, shownCount, shownDisplacement}
+use Rattle.calls_better.specs.Refusals.{betterRefusal}
+use Rattle.calls_better.specs.Calls.{betterPart}
+use Rattle.calls_newick.specs.Refusals.{writtenText}
 use Rattle.calls_pins.specs.Calls.{Pins}
 use Rattle.promises.specs.HeldStays.{SameTrees}
 
@@ -30,7 +33,12 @@ pub record PinOnly (s : List ℕ) (side row : ℕ) (pinned : Bool) (answer : Ref
   -- So neither side moves, and an accepted record is accepted again.
   pub keeps-the-trees : SameTrees s s′
   pub keeps-the-orders : (x : Side) → shownOrder s′ x ≡ shownOrder s x
+  -- And nothing that is shown of it tells: not the count, nor D, nor a side's text, nor better of two.
   pub keeps-the-count : shownCount s′ ≡ shownCount s
+  pub keeps-the-displacement : shownDisplacement s′ ≡ shownDisplacement s
+  pub keeps-the-texts : (x : ℕ) → writtenText s′ x ≡ writtenText s x
+  pub keeps-better : (x : ℕ) (first second : List ℕ) →
+      (betterRefusal s′ x first second ≡ betterRefusal s x first second) × (betterPart s′ x first second ≡ betterPart s x first second)
   -- Its refusals, test by test.
   pub bad-side-first : isSide side ≡ false → answer .number ≡ 13
   pub then-the-record : isSide side ≡ true → refusal s ≢ 0 → answer .number ≡ refusal s

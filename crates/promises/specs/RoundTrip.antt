@@ -1,12 +1,18 @@
--- There and back: what packing accepts, unpacking reads out again; what unpacking accepts, packing makes again, byte for byte.
+-- There and back: what packing accepts, unpacking reads out again; what unpacking accepts, packing makes again, byte for byte. Pins are
+-- carried through.
 use Prim.Native.Nat.{ℕ, _-_, _*_, _≤_, _<_}
 use mathlib.Core.Path.{_≡_}
 use mathlib.Core.List.{List}
 use lib.ListN.{length, take}
 use Rattle.tanglegram.specs.Lists.{Each}
+use Rattle.tanglegram.specs.Order.{byte}
+use Rattle.tanglegram.specs.Run.{Side}
+use Rattle.tanglegram.specs.Table.{layout}
 use Rattle.record_fields.specs.declared.refusal.Refusal.{Refusal}
 use Rattle.record_fields.specs.Fields.{lengthOf, Parts, given}
 use Rattle.record_fields.specs.Refused.{refused}
+use Rattle.record_fields.specs.Meaning.{layoutsIn}
+use Rattle.record_arrays.specs.Rows.{rowByte}
 use Rattle.record_packing.specs.Calls.{Packs}
 use Rattle.promises.specs.Outcomes.{UnpackOutcome, UnpacksTo}
 
@@ -45,3 +51,10 @@ pub record RoundTrip : Type 0 where
       UnpacksTo s left right links left-layout right-layout o → o .answer .refusal .number ≡ 0 →
       (out : List ℕ) → length s ≤ length out → (answer : Refusal) (after : List ℕ) → Packs (partsIn o) out answer after →
       (answer .number ≡ 0) × (take (length s) after ≡ s)
+  -- A row of the record that packing makes has the byte that its layout had, and a row's byte that unpacking writes is the record's: 2 and 3
+  -- as they are.
+  pub pins-packed : (P : Parts) (out : List ℕ) (answer : Refusal) (after : List ℕ) → Packs P out answer after → answer .number ≡ 0 →
+      (side : Side) (row : ℕ) → rowByte (take (lengthOf (P .size)) after) side row ≡ byte (layout (layoutsIn P) side) row
+  pub pins-unpacked : (s left right links left-layout right-layout : List ℕ) (o : UnpackOutcome) →
+      UnpacksTo s left right links left-layout right-layout o → o .answer .refusal .number ≡ 0 →
+      (side : Side) (row : ℕ) → byte (layout (layoutsIn (partsIn o)) side) row ≡ rowByte s side row
