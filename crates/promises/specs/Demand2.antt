@@ -25,10 +25,10 @@ use Rattle.promises.specs.RoundTrip.{RoundTrip}
 
 -- What freeing a side of s, which becomes s′, keeps.
 pub record FreeKeeps (s : List ℕ) (side : Side) (s′ : List ℕ) : Type 0 where
-  -- "the freed side gets the fewest crossings that any choice of its turnings could give".
+  -- "the freed side gets the fewest crossings that any choice of its turnings could give", of those that agree with the pinned rows.
   pub fewest : Least (tableOf s′) side (layoutsOf s′)
-  -- "a branching is turned only if that makes its own crossings fewer": exactly if it may change and, of the pairs of leaves with one
-  -- under each of its children, fewer cross with this row turned over.
+  -- "a branching is turned only if that makes its own crossings fewer": exactly if it may change, which a pinned one may not, and, of the
+  -- pairs of leaves with one under each of its children, fewer cross with this row turned over.
   pub turned-exactly : EachRow (λ i u l.
       (byte (layout (layoutsOf s′) side) i ≡ flip (byte (layout (layoutsOf s) side) i)) ↔
       ((mayChange (byte (layout (layoutsOf s) side) i) ≡ true) ×

@@ -54,7 +54,7 @@ pub record RunKeeps (s : List ℕ) (allowance : ℕ) (answer : Ran) (s′ : List
   -- An allowance of the first count plus two ends settled; otherwise the allowance is used up.
   pub in-time : answer .first + 2 ≤ allowance → answer .settled ≡ 1
   pub used-up : answer .settled ≡ 0 → answer .turns ≡ allowance
-  -- Settled: no choice on either side alone, the other standing, crosses less.
+  -- Settled: no choice on either side alone, the other standing, crosses less; a choice agrees with the pinned rows.
   pub least : answer .settled ≡ 1 → (side : Side) → Least (tableOf s′) side (layoutsOf s′)
 
 pub record Demand3 : Type 0 where
