@@ -1,5 +1,6 @@
-// Freeing a side row by row: a row is turned over exactly if that makes its own crossings strictly fewer. A row's own
-// crossings don't depend on the turnings of other rows, so each is decided by the order in which the side stood before.
+// Freeing a side row by row: a row is turned over exactly if it may change and that makes its own crossings strictly
+// fewer. A row's own crossings don't depend on the turnings of other rows, so each is decided by the order in which the
+// side stood before.
 ghost use mathlib.Core.Path.{_≡_};
 ghost use Prim.Native.Nat.{_+_};
 ghost use lib.ListN.{length};
@@ -21,7 +22,8 @@ pub struct Sums {
 }
 
 // Frees a side in memory, a row array with the layout applied, its rows' leaf counts and its order: turns each row over
-// from its present byte exactly if that makes its own crossings strictly fewer, by the far places of the leaves' links.
+// from its present byte exactly if it may change and that makes its own crossings strictly fewer, by the far places of
+// the leaves' links.
 // The leaves under an object stand side by side in the order; `from` has the first one's place, for each leaf and for
 // each object whose row has been decided. Answers the sums of the rows' own crossings, which are all crossings of the
 // side.
