@@ -15,9 +15,8 @@ use Rattle.record_fields.specs.Meaning.{relaid}
 use Rattle.record_fields.proofs.Acceptance.{else-first, none-both}
 use Rattle.record_fields.proofs.Heading.{none-first, not-no}
 use Rattle.record_fields.proofs.Told.{told-none, alone-when, alone-0, own-when, own-then}
-use Rattle.record_arrays.specs.Sides.{isSide, RecordOver}
+use Rattle.record_arrays.specs.Sides.{isSide}
 use Rattle.record_arrays.specs.Rows.{noRow}
-use Rattle.record_arrays.proofs.AsItStands.{over-its-leaves}
 use Rattle.record_arrays.proofs.OneRow.{row-there}
 use Rattle.calls_pins.specs.Refusals.{pinRefusal}
 use Rattle.calls_pins.specs.Calls.{pinnedLayouts, Pins}

@@ -34,7 +34,7 @@ use Rattle.calls_pins.specs.Refusals.{pinRefusal}
 use Rattle.calls_pins.specs.Calls.{pinnedLayouts}
 use Rattle.calls_pins.proofs.Pinned.{pinning-13, pinning-record, pinning-15, pinning-0, pinning-good}
 use Rattle.promises.specs.HeldStays.{SameTrees}
-use Rattle.promises.specs.PinOnly.{PinOnly, PinPromise}
+use Rattle.promises.specs.PinOnly.{PinPromise}
 use Rattle.promises.proofs.HeldStays.{trees-same}
 
 module _ (s : List ℕ) (side row : ℕ) (pinned : Bool) where

@@ -108,7 +108,7 @@ row-small s a side row = by side
 
 -- ---- the record with a layout byte put there: accepted again, over as many leaves
 
-pub each-set : (P : ℕ → Type 0) (xs : List ℕ) (i v : ℕ) → P v → Each P xs → Each P (set xs i v)
+each-set : (P : ℕ → Type 0) (xs : List ℕ) (i v : ℕ) → P v → Each P xs → Each P (set xs i v)
 each-set P [] i v h e = e
 each-set P (x ∷ xs) zero v h e = (h, e .1)
 each-set P (x ∷ xs) (suc i) v h e = (e .0, each-set P xs i v h (e .1))

@@ -5,7 +5,7 @@ use borrow.Author.Tests.{not-true, not-false}
 use Rattle.tanglegram.specs.Order.{mayChange}
 use Rattle.record_fields.specs.Fields.{holdOf, sizeOf}
 use Rattle.record_arrays.specs.Sides.{isSide, sideOf, holds}
-use Rattle.record_arrays.specs.Rows.{noRow, rowByte}
+use Rattle.record_arrays.specs.Rows.{noRow}
 use Rattle.record_arrays.proofs.OneRow.{row-there}
 use Rattle.calls_hands.proofs.HandLists.{hand-13, hand-15, hand-11, hand-22, hand-0}
 use borrow.Author.Needs.{needs}
