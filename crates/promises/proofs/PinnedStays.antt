@@ -34,6 +34,7 @@ use Rattle.calls_hands.proofs.Handed.{pinned-kept}
 use Rattle.promises.specs.PinnedStays as PinnedStays
 use Rattle.promises.specs.PinnedStays.{PinsKept, AllPinned, StoodStill}
 use Rattle.promises.proofs.HeldStays.{ran-fits, handed-fits}
+use Rattle.promises.proofs.PinOnly.{pin-only}
 
 -- ---- what is kept, of layouts
 
@@ -204,6 +205,7 @@ pinned-stays = record {
       let same = reheld s s′ letter (setHoldRefusal s letter) (o .afterwards) (λ e. holding-accepted s letter e .1) in
       pins-kept s s′ (λ side row h. ap (λ L. byte (layout L side) row) same)
       (λ side row. ap (λ L. mayChange (byte (layout L side) row)) same);
+  pin = λ s side row pinned answer s′ o. pin-only s side row pinned answer s′ o .keeps-the-turnings;
   free-all-pinned = free-all;
   run-all-pinned = λ s allowance answer s′ o all.
       run-all s allowance all s′ (eqb (runRefusal s allowance) 0) refl (o .afterwards);

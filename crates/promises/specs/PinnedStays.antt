@@ -1,12 +1,12 @@
 -- The customer, in the request for pins: "Freeing, runs and hand lists never change a pinned byte." For every call that may change a
--- record, in every outcome; and none of them pins a row or unpins it but the call that does (`PinOnly`). So what freeing may choose from
--- is the same before and after, and a side of which every row is pinned stands as if it were held.
+-- record, in every outcome; and none of them pins a row or unpins it but the call that does, which turns no row over (`PinOnly`). So what
+-- freeing may choose from is the same before and after, and a side of which every row is pinned stands as if it were held.
 use Prim.Native.Nat.{ℕ, _≤_, _<_}
 use mathlib.Core.Path.{_≡_}
-use mathlib.Core.Bool.{false}
+use mathlib.Core.Bool.{Bool, false}
 use mathlib.Core.Logic.{_↔_}
 use mathlib.Core.List.{List}
-use Rattle.tanglegram.specs.Order.{mayChange, Choice}
+use Rattle.tanglegram.specs.Order.{turned, mayChange, Choice}
 use Rattle.tanglegram.specs.Run.{Side}
 use Rattle.tanglegram.specs.Table.{layout}
 use Rattle.record_fields.specs.Fields.{sizeOf}
@@ -20,6 +20,7 @@ use Rattle.calls_turns.specs.declared.answers.Ran.{Ran}
 use Rattle.calls_turns.specs.Calls.{Frees, Runs}
 use Rattle.calls_hands.specs.Refusals.{Hand}
 use Rattle.calls_hands.specs.Calls.{Hands}
+use Rattle.calls_pins.specs.Calls.{Pins}
 
 -- What becomes of the pins of s, which becomes s′.
 pub record PinsKept (s s′ : List ℕ) : Type 0 where
@@ -46,6 +47,9 @@ pub record PinnedStays : Type 0 where
   pub run : (s : List ℕ) (allowance : ℕ) (answer : Ran) (s′ : List ℕ) → Runs s allowance answer s′ → PinsKept s s′
   pub hands : (s : List ℕ) (hands : List Hand) (answer : Refusal) (s′ : List ℕ) → Hands s hands answer s′ → PinsKept s s′
   pub set-hold : (s : List ℕ) (letter : ℕ) (answer : Refusal) (s′ : List ℕ) → SetsHold s letter answer s′ → PinsKept s s′
+  -- Pinning and unpinning, whose byte it is to change, turns no row over, pinned or not.
+  pub pin : (s : List ℕ) (side row : ℕ) (pinned : Bool) (answer : Refusal) (s′ : List ℕ) → Pins s side row pinned answer s′ →
+      (x : Side) (i : ℕ) → turned (rowByte s′ x i) ≡ turned (rowByte s x i)
   -- Freeing a side of which every row is pinned changes nothing, and answers equal counts.
   pub free-all-pinned : (s : List ℕ) (side : ℕ) (answer : Freed) (s′ : List ℕ) → Frees s side answer s′ →
       AllPinned s (sideOf side) → (s′ ≡ s) × (answer .after ≡ answer .before)

@@ -8,8 +8,8 @@ use lib.ListN.{length, getD, set, take, drop}
 use Rattle.tanglegram.specs.Lists.{place, bit}
 use Rattle.tanglegram.specs.Tree.{Tree, leaf, fork, leaves, EachObject}
 
--- A layout byte is read by these two names only. 0 is as given and 1 turned over; 2 is as given and 3 turned over too, and both are
--- pinned: such a row is not turned over, it may not change. No layout byte is above 3.
+-- A layout byte is read by these two names only. 0 is as given and 1 turned over; 2 and 3 are the same two, pinned: such a row may not
+-- change, no call turns it over. No layout byte is above 3.
 abbrev pub turned : ℕ → Bool
 turned zero = false
 turned (suc zero) = true
