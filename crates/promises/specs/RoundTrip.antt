@@ -51,8 +51,8 @@ pub record RoundTrip : Type 0 where
       UnpacksTo s left right links left-layout right-layout o → o .answer .refusal .number ≡ 0 →
       (out : List ℕ) → length s ≤ length out → (answer : Refusal) (after : List ℕ) → Packs (partsIn o) out answer after →
       (answer .number ≡ 0) × (take (length s) after ≡ s)
-  -- A row of the record that packing makes has the byte that its layout had, and a row's byte that unpacking writes is the record's: 2 and 3
-  -- as they are.
+  -- A row of the record that packing makes has the byte that its layout had, and a row's byte that unpacking writes is the record's: 2
+  -- and 3 as they are.
   pub pins-packed : (P : Parts) (out : List ℕ) (answer : Refusal) (after : List ℕ) → Packs P out answer after → answer .number ≡ 0 →
       (side : Side) (row : ℕ) → rowByte (take (lengthOf (P .size)) after) side row ≡ byte (layout (layoutsIn P) side) row
   pub pins-unpacked : (s left right links left-layout right-layout : List ℕ) (o : UnpackOutcome) →
