@@ -2,25 +2,32 @@
 use Prim.Native.Nat.{ℕ, zero, suc, pred, _≤_}
 use mathlib.Core.Path.{_≡_, refl, sym, ap, _∙_, subst}
 use mathlib.Core.Bool.{Bool, true, false, cond}
-use mathlib.Core.List.{List, [], _∷_}
+use mathlib.Core.List.{List, [], _∷_, Permᴰ·symm}
 use native.Mathlib.Omega.{arith}
 use borrow.Author.Tests.{eqb-true, eq-eqb}
 use lib.Dec.{eqb}
 use lib.ListN.{set}
-use Rattle.tanglegram.specs.Order.{byte, turned, mayChange, flip, turnRow}
+use Rattle.tanglegram.specs.Lists.{place}
+use Rattle.tanglegram.specs.Tree.{leaves}
+use Rattle.tanglegram.specs.Order.{order, byte, turned, mayChange, flip, turnRow}
 use Rattle.tanglegram.specs.Run.{Side, left, right, other, after}
 use Rattle.tanglegram.specs.Table.{Table, Layouts, layout, put, crossings, free, Fair, Fits}
 use Rattle.tanglegram.proofs.Bytes.{mayChange-flip}
+use Rattle.tanglegram.proofs.Lists.{all-distinct, mem-perm, mem-range}
+use Rattle.tanglegram.proofs.Tree.{eachRow-map}
+use Rattle.tanglegram.proofs.Standing.{place-same}
 use Rattle.tanglegram.proofs.Run.{run-standing}
 use Rattle.tanglegram.proofs.Table.{free-fits, free-pinned, free-marks, free-standing, table-run}
+use Rattle.record_fields.specs.Fields.{sizeOf}
 use Rattle.record_fields.specs.Refusals.{refusal, setHoldRefusal}
 use Rattle.record_fields.specs.Refused.{accepted, orZero}
-use Rattle.record_fields.specs.Meaning.{tableOf, layoutsIn, layoutsOf, relaid}
+use Rattle.record_fields.specs.Meaning.{tableIn, tableOf, layoutsIn, layoutsOf, relaid}
 use Rattle.record_fields.proofs.Acceptance.{accepted-sized, accepted-heading, holding-accepted}
-use Rattle.record_fields.proofs.Meaning.{accepted-fair, accepted-fits, fits-long, layouts-of-relaid, relaid-same}
+use Rattle.record_fields.proofs.Meaning.{accepted-fair, accepted-fits, fits-long, table-relaid, layouts-of-relaid, relaid-same}
 use Rattle.record_fields.proofs.Rehold.{parts-rehold}
 use Rattle.record_arrays.specs.Sides.{sideOf}
-use Rattle.record_arrays.specs.Shown.{shownCount}
+use Rattle.record_arrays.specs.Shown.{shownOrder, shownCount}
+use Rattle.record_arrays.proofs.AsItStands.{over-its-leaves, side-leaves}
 use Rattle.record_arrays.proofs.OneRow.{set-keeps}
 use Rattle.calls_turns.specs.declared.answers.Freed.{Freed}
 use Rattle.calls_turns.specs.declared.answers.Ran.{Ran}
@@ -32,7 +39,7 @@ use Rattle.calls_hands.specs.Calls.{handed}
 use Rattle.calls_hands.proofs.HandLists.{handing-accepted}
 use Rattle.calls_hands.proofs.Handed.{pinned-kept}
 use Rattle.promises.specs.PinnedStays as PinnedStays
-use Rattle.promises.specs.PinnedStays.{PinsKept, AllPinned, StoodStill}
+use Rattle.promises.specs.PinnedStays.{PinnedAbove, PinsKept, AllPinned, StoodStill}
 use Rattle.promises.proofs.HeldStays.{ran-fits, handed-fits}
 use Rattle.promises.proofs.PinOnly.{pin-only}
 
@@ -45,9 +52,26 @@ Stay old new = (side : Side) (row : ℕ) → mayChange (byte (layout old side) r
 abbrev Marks : Layouts → Layouts → Type 0
 Marks old new = (side : Side) (row : ℕ) → mayChange (byte (layout new side) row) ≡ mayChange (byte (layout old side) row)
 
-pins-kept : (s s′ : List ℕ) → Stay (layoutsOf s) (layoutsOf s′) → Marks (layoutsOf s) (layoutsOf s′) → PinsKept s s′
-pins-kept s s′ p m = record {
+abbrev Trees : List ℕ → List ℕ → Type 0
+Trees s s′ = (side : Side) → tableOf s′ .tree side ≡ tableOf s .tree side
+
+-- a leaf under pinned rows only keeps its place
+same-place : (s s′ : List ℕ) → Trees s s′ → Stay (layoutsOf s) (layoutsOf s′) → refusal s ≡ 0 → (side : Side) (a : ℕ) → 1 ≤ a →
+    a ≤ sizeOf s → PinnedAbove s side a → place (shownOrder s′ side) a ≡ place (shownOrder s side) a
+same-place s s′ trees p ok side a some most above =
+    let t = tableOf s .tree side in
+    let all = side-leaves s (sizeOf s) (over-its-leaves s ok) side in
+    let old = layout (layoutsOf s) side in
+    let new = layout (layoutsOf s′) side in
+    ap (λ u. place (order new u) a) (trees side)
+    ∙ place-same old new a t (all-distinct (sizeOf s) (leaves t) all)
+    (mem-perm (Permᴰ·symm all) (mem-range a 1 (sizeOf s) some (omega arith)))
+    (eachRow-map t (λ i u l h m. ap turned (p side i (h m))) above)
+
+pins-kept : (s s′ : List ℕ) → Trees s s′ → Stay (layoutsOf s) (layoutsOf s′) → Marks (layoutsOf s) (layoutsOf s′) → PinsKept s s′
+pins-kept s s′ trees p m = record {
   pinned-stays = p;
+  place-stays = same-place s s′ trees p;
   same-pins = m;
   same-choices = λ side any. (
     λ c i h. c i (m side i ∙ h) ∙ ap turned (p side i h),
@@ -64,11 +88,13 @@ either s s′ new k e f = go (eqb k 0) refl e
     go true p q =
         let h = f (eqb-true k 0 p) in
         let a = h .0 in
-        let laid : layoutsOf s′ ≡ new =
-        ap layoutsOf q
-        ∙ layouts-of-relaid s (accepted-sized s a) new (fits-long s a new (h .1) left) (fits-long s a new (h .1) right) in
-        pins-kept s s′ (subst (Stay (layoutsOf s)) (sym laid) (h .2)) (subst (Marks (layoutsOf s)) (sym laid) (h .3))
-    go false p q = subst (PinsKept s) (sym q) (pins-kept s s (λ side row h. refl) (λ side row. refl))
+        let z = accepted-sized s a in
+        let l = fits-long s a new (h .1) left in
+        let r = fits-long s a new (h .1) right in
+        let laid : layoutsOf s′ ≡ new = ap layoutsOf q ∙ layouts-of-relaid s z new l r in
+        let table : tableOf s′ ≡ tableOf s = ap tableOf q ∙ table-relaid s z new l r in
+        pins-kept s s′ (λ side. ap (λ T. T .tree side) table) (subst (Stay (layoutsOf s)) (sym laid) (h .2)) (subst (Marks (layoutsOf s)) (sym laid) (h .3))
+    go false p q = subst (PinsKept s) (sym q) (pins-kept s s (λ side. refl) (λ side row h. refl) (λ side row. refl))
 
 -- ---- turns
 
@@ -101,13 +127,15 @@ handed-marks (h ∷ hs) at x i = handed-marks hs _ x i ∙ by (sideOf (h .side))
 
 -- ---- setting the hold
 
-reheld : (s s′ : List ℕ) (letter k : ℕ) → s′ ≡ cond (accepted k) (set s 5 letter) s → (k ≡ 0 → refusal s ≡ 0) → layoutsOf s′ ≡ layoutsOf s
+reheld : (s s′ : List ℕ) (letter k : ℕ) → s′ ≡ cond (accepted k) (set s 5 letter) s → (k ≡ 0 → refusal s ≡ 0) →
+    (layoutsOf s′ ≡ layoutsOf s) × (tableOf s′ ≡ tableOf s)
 reheld s s′ letter k e f = go (eqb k 0) refl e
   where
-    go : (b : Bool) → eqb k 0 ≡ b → s′ ≡ cond b (set s 5 letter) s → layoutsOf s′ ≡ layoutsOf s
+    go : (b : Bool) → eqb k 0 ≡ b → s′ ≡ cond b (set s 5 letter) s → (layoutsOf s′ ≡ layoutsOf s) × (tableOf s′ ≡ tableOf s)
     go true p q =
-        ap layoutsOf q ∙ ap layoutsIn (parts-rehold s letter (omega (arith, accepted-heading s (f (eqb-true k 0 p)) .long)))
-    go false p q = ap layoutsOf q
+        let same = parts-rehold s letter (omega (arith, accepted-heading s (f (eqb-true k 0 p)) .long)) in
+        (ap layoutsOf q ∙ ap layoutsIn same, ap tableOf q ∙ ap tableIn same)
+    go false p q = (ap layoutsOf q, ap tableOf q)
 
 -- ---- every row pinned
 
@@ -203,8 +231,8 @@ pinned-stays = record {
       (a, handed-fits s a hands, pinned-kept s hands e, handed-marks hands (layoutsOf s)));
   set-hold = λ s letter answer s′ o.
       let same = reheld s s′ letter (setHoldRefusal s letter) (o .afterwards) (λ e. holding-accepted s letter e .1) in
-      pins-kept s s′ (λ side row h. ap (λ L. byte (layout L side) row) same)
-      (λ side row. ap (λ L. mayChange (byte (layout L side) row)) same);
+      pins-kept s s′ (λ side. ap (λ T. T .tree side) (same .1)) (λ side row h. ap (λ L. byte (layout L side) row) (same .0))
+      (λ side row. ap (λ L. mayChange (byte (layout L side) row)) (same .0));
   pin = λ s side row pinned answer s′ o. pin-only s side row pinned answer s′ o .keeps-the-turnings;
   free-all-pinned = free-all;
   run-all-pinned = λ s allowance answer s′ o all.

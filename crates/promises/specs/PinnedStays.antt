@@ -6,14 +6,18 @@ use mathlib.Core.Path.{_≡_}
 use mathlib.Core.Bool.{Bool, false}
 use mathlib.Core.Logic.{_↔_}
 use mathlib.Core.List.{List}
+use Rattle.tanglegram.specs.Lists.{place}
+use Rattle.tanglegram.specs.Tree.{EachAbove}
 use Rattle.tanglegram.specs.Order.{turned, mayChange, Choice}
 use Rattle.tanglegram.specs.Run.{Side}
 use Rattle.tanglegram.specs.Table.{layout}
 use Rattle.record_fields.specs.Fields.{sizeOf}
-use Rattle.record_fields.specs.Meaning.{layoutsOf}
+use Rattle.record_fields.specs.Refusals.{refusal}
+use Rattle.record_fields.specs.Meaning.{tableOf, layoutsOf}
 use Rattle.record_fields.specs.declared.refusal.Refusal.{Refusal}
 use Rattle.record_arrays.specs.Sides.{sideOf}
 use Rattle.record_arrays.specs.Rows.{rowByte}
+use Rattle.record_arrays.specs.Shown.{shownOrder}
 use Rattle.record.specs.Calls.{SetsHold}
 use Rattle.calls_turns.specs.declared.answers.Freed.{Freed}
 use Rattle.calls_turns.specs.declared.answers.Ran.{Ran}
@@ -22,10 +26,17 @@ use Rattle.calls_hands.specs.Refusals.{Hand}
 use Rattle.calls_hands.specs.Calls.{Hands}
 use Rattle.calls_pins.specs.Calls.{Pins}
 
+-- Every row above leaf a of that side is pinned.
+abbrev pub PinnedAbove : List ℕ → Side → ℕ → Type 0
+PinnedAbove s side a = EachAbove (λ row. mayChange (rowByte s side row) ≡ false) a (tableOf s .tree side)
+
 -- What becomes of the pins of s, which becomes s′.
 pub record PinsKept (s s′ : List ℕ) : Type 0 where
   -- A pinned row's byte is the same, and so its turning.
   pub pinned-stays : (side : Side) (row : ℕ) → mayChange (rowByte s side row) ≡ false → rowByte s′ side row ≡ rowByte s side row
+  -- So a tube stands still if every row above its leaf is pinned: its place in the order is the same.
+  pub place-stays : refusal s ≡ 0 → (side : Side) (a : ℕ) → 1 ≤ a → a ≤ sizeOf s → PinnedAbove s side a →
+      place (shownOrder s′ side) a ≡ place (shownOrder s side) a
   -- A row is pinned exactly if it was.
   pub same-pins : (side : Side) (row : ℕ) → mayChange (rowByte s′ side row) ≡ mayChange (rowByte s side row)
   -- The same choices of turnings are permitted.

@@ -4,6 +4,7 @@ pub mod Tree
 pub mod Write
 pub mod Bytes
 pub mod Order
+pub mod Standing
 pub mod Compatible
 pub mod Sums
 pub mod ListSums
