@@ -93,7 +93,8 @@ either s s′ new k e f = go (eqb k 0) refl e
         let r = fits-long s a new (h .1) right in
         let laid : layoutsOf s′ ≡ new = ap layoutsOf q ∙ layouts-of-relaid s z new l r in
         let table : tableOf s′ ≡ tableOf s = ap tableOf q ∙ table-relaid s z new l r in
-        pins-kept s s′ (λ side. ap (λ T. T .tree side) table) (subst (Stay (layoutsOf s)) (sym laid) (h .2)) (subst (Marks (layoutsOf s)) (sym laid) (h .3))
+        pins-kept s s′ (λ side. ap (λ T. T .tree side) table) (subst (Stay (layoutsOf s)) (sym laid) (h .2))
+        (subst (Marks (layoutsOf s)) (sym laid) (h .3))
     go false p q = subst (PinsKept s) (sym q) (pins-kept s s (λ side. refl) (λ side row h. refl) (λ side row. refl))
 
 -- ---- turns
