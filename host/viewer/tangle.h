@@ -200,7 +200,8 @@ struct tangle_refusal tangle_hold(uint8_t *record, size_t length, uint32_t lette
 
 /* Pins a row, or unpins it if `pin` is 0, and keeps its turning: pinning makes a layout byte of 0 into 2 and one of 1
  * into 3, unpinning makes 2 into 0 and 3 into 1. A row that is so already stays as it is, and no other byte changes. A
- * hold is no matter.
+ * hold is no matter. A pin keeps which child of its row stands first, and no more: a leaf keeps its place in the order
+ * while every row above it is pinned, up to the root.
  * Refused: 13, then 1 to 10, then 15. */
 struct tangle_refusal tangle_pin(uint8_t *record, size_t length, uint32_t side, uint32_t row, uint32_t pin);
 
