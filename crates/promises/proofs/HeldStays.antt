@@ -1,11 +1,9 @@
 -- Freeing, runs and hand lists change layout bytes only, and never a held side's.
 use Prim.Native.Nat.{ℕ, zero, suc, pred}
 use mathlib.Core.Path.{_≡_, refl, sym, ap, ap₂, _∙_, subst}
-use mathlib.Core.Bool.{Bool, true, false, cond, true≢false}
+use mathlib.Core.Bool.{true, false, true≢false}
 use mathlib.Core.List.{List, [], _∷_}
 use native.Mathlib.Omega.{arith}
-use borrow.Author.Tests.{eqb-true}
-use lib.Dec.{eqb}
 use lib.ListN.{length, take, length-set}
 use lib.Seq.{take-at, length-take-le}
 use Rattle.tanglegram.specs.Order.{order, byte, turnRow}
@@ -34,6 +32,7 @@ use Rattle.calls_hands.proofs.HandLists.{handing-accepted}
 use Rattle.calls_hands.proofs.Handed.{held-kept}
 use Rattle.promises.specs.HeldStays as HeldStays
 use Rattle.promises.specs.HeldStays.{SameTrees, Keeps}
+use Rattle.promises.proofs.Afterwards.{afterwards}
 
 pub trees-same : (s : List ℕ) → SameTrees s s
 trees-same s = record { same-size = refl; same-trees = λ side. refl; same-links = refl; accepted-again = λ a. a }
@@ -81,14 +80,6 @@ keeps-relaid s a new f b h =
           take-at (take (leftLayoutAt (sizeOf s)) s) _ (leftLayoutAt (sizeOf s)) (length-take-le (leftLayoutAt (sizeOf s)) s (omega arith));
       held-stays = λ side e. ap (λ L. layout L side) laid ∙ h side e;
     }
-
--- a call that is accepted and keeps what it should, or is refused and changes nothing
-either : (s new s′ : List ℕ) (k : ℕ) → s′ ≡ cond (accepted k) new s → (k ≡ 0 → Keeps s new) → Keeps s s′
-either s new s′ k e f = go (eqb k 0) refl e
-  where
-    go : (b : Bool) → eqb k 0 ≡ b → s′ ≡ cond b new s → Keeps s s′
-    go true p q = subst (Keeps s) (sym q) (f (eqb-true k 0 p))
-    go false p q = subst (Keeps s) (sym q) (keeps-same s)
 
 -- freeing keeps them so, turn after turn
 freed-bytes : (T : Table) (F : Fair T) (side : Side) (L : Layouts) → Fits F L → Bytes L → Bytes (free T side L)
@@ -175,9 +166,9 @@ hands-keep s hands e =
 
 pub held-stays : HeldStays.HeldStays
 held-stays = record {
-  free = λ s side answer s′ o. either s (relaid s (freedLayouts s side)) s′ (freeRefusal s side) (o .afterwards) (free-keeps s side);
+  free = λ s side answer s′ o. afterwards (Keeps s) (freeRefusal s side) (o .afterwards) (free-keeps s side) (keeps-same s);
   run = λ s allowance answer s′ o.
-      either s (relaid s (ranTo s allowance .last)) s′ (runRefusal s allowance) (o .afterwards) (run-keeps s allowance);
+      afterwards (Keeps s) (runRefusal s allowance) (o .afterwards) (run-keeps s allowance) (keeps-same s);
   hands = λ s hands answer s′ o.
-      either s (relaid s (handed (layoutsOf s) hands)) s′ (handsRefusal s hands) (o .afterwards) (hands-keep s hands);
+      afterwards (Keeps s) (handsRefusal s hands) (o .afterwards) (hands-keep s hands) (keeps-same s);
 }

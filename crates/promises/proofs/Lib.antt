@@ -2,6 +2,7 @@ pub mod Outcomes
 pub mod Tests
 pub mod RefusedCalls
 pub mod RowTold
+pub mod Afterwards
 pub mod HeldStays
 pub mod PinnedStays
 pub mod SetHoldOnly

@@ -1,13 +1,13 @@
 -- Pinning a row or unpinning it: one layout byte is put, which turns as the one before it.
-use Prim.Native.Nat.{ℕ, pred, _+_, _-_, _≤_, _<_}
-use mathlib.Core.Path.{_≡_, refl, sym, ap, ap₂, _∙_, subst}
+use Prim.Native.Nat.{ℕ, zero, suc, pred, _+_, _-_, _≤_, _<_}
+use mathlib.Core.Path.{_≡_, refl, sym, ap, ap₂, _∙_}
 use mathlib.Core.Logic.{_≢_}
 use mathlib.Core.Bool.{Bool, true, false, cond, not}
 use mathlib.Core.List.{List}
 use native.Mathlib.Numerals.{sub-one}
 use native.Mathlib.Omega.{arith}
-use borrow.Author.Tests.{eqb-true, eq-eqb}
-use lib.Dec.{eqb}
+use borrow.Author.Tests.{eq-eqb}
+use lib.Dec.{eqb, ltb}
 use lib.ListN.{length, getD, set, length-set}
 use lib.Seq.{getD-set-same, getD-set-other, set-getD}
 use Rattle.tanglegram.specs.Order.{order, byte, turned, mayChange, withPin}
@@ -15,12 +15,13 @@ use Rattle.tanglegram.specs.Run.{Side, left, right}
 use Rattle.tanglegram.specs.Table.{layout}
 use Rattle.tanglegram.proofs.Bytes.{turned-withPin, mayChange-withPin, withPin-small, withPin-same}
 use Rattle.tanglegram.proofs.Order.{order-same}
-use Rattle.record_fields.specs.Fields.{holdOf, sizeOf, parts}
-use Rattle.record_fields.specs.Refusals.{refusal}
+use Rattle.record_fields.specs.Fields.{two, versionAt, holdOf, sizeOf, lengthOf, Parts, parts}
+use Rattle.record_fields.specs.Refusals.{orElse, isMark, isHold, noSize, breaksRule, oneToOne, isLayout}
+use Rattle.record_fields.specs.Refusals.{headingRefusal, contentsRefusal, refusal}
 use Rattle.record_fields.specs.Refused.{accepted}
 use Rattle.record_fields.specs.Meaning.{tableIn, tableOf, layoutsOf, relaidIn, relaid}
-use Rattle.record_arrays.specs.Sides.{sideOf, RecordOver, layoutAt}
-use Rattle.record_arrays.specs.Rows.{rowByte, withByte}
+use Rattle.record_arrays.specs.Sides.{isSide, sideOf, RecordOver, layoutAt}
+use Rattle.record_arrays.specs.Rows.{noRow, rowByte, withByte}
 use Rattle.record_arrays.specs.Shown.{shownOrder, shownCount, shownDisplacement}
 use Rattle.newick.specs.Writing.{sentenceOf, textOf}
 use Rattle.newick.proofs.Written.{sentence-same}
@@ -35,6 +36,7 @@ use Rattle.calls_pins.specs.Calls.{pinnedLayouts}
 use Rattle.calls_pins.proofs.Pinned.{pinning-13, pinning-record, pinning-15, pinning-0, pinning-good}
 use Rattle.promises.specs.HeldStays.{SameTrees}
 use Rattle.promises.specs.PinOnly.{PinPromise}
+use Rattle.promises.proofs.Afterwards.{afterwards}
 use Rattle.promises.proofs.HeldStays.{trees-same}
 
 module _ (s : List ℕ) (side row : ℕ) (pinned : Bool) where
@@ -128,12 +130,10 @@ module _ (s : List ℕ) (side row : ℕ) (pinned : Bool) where
             ∙ mayChange-withPin pinned (rowByte s right row)
 
   -- in either case
-  kept : (s′ : List ℕ) (b : Bool) → eqb (pinRefusal s side row) 0 ≡ b →
-      s′ ≡ cond b (relaid s (pinnedLayouts s side row pinned)) s → Kept s′
-  kept s′ true p q =
-      let h = pinning-good s side row (eqb-true (pinRefusal s side row) 0 p) in
-      subst Kept (sym q) (kept-accepted (h .1) (h .2 .0) (h .2 .1))
-  kept s′ false p q = subst Kept (sym q) kept-same
+  kept : (s′ : List ℕ) → s′ ≡ cond (accepted (pinRefusal s side row)) (relaid s (pinnedLayouts s side row pinned)) s → Kept s′
+  kept s′ q =
+      afterwards Kept (pinRefusal s side row) q
+      (λ e. let h = pinning-good s side row e in kept-accepted (h .1) (h .2 .0) (h .2 .1)) kept-same
 
   pins-it : (s′ : List ℕ) → pinRefusal s side row ≡ 0 →
       s′ ≡ cond (accepted (pinRefusal s side row)) (relaid s (pinnedLayouts s side row pinned)) s →
@@ -178,10 +178,52 @@ module _ (s : List ℕ) (side row : ℕ) (pinned : Bool) where
       refusal-same : (y : ℕ) (first second : List ℕ) → betterRefusal s′ y first second ≡ betterRefusal s y first second
       refusal-same y first second = rw (k .same-refusal, k .trees .same-trees (sideOf y), k .trees .same-size) refl
 
+-- the record's own refusals are at most 10, so the call tells neither 11 nor 22
+when-most : (b : Bool) (k r m : ℕ) → k ≤ m → r ≤ m → cond b k r ≤ m
+when-most true k r m h g = h
+when-most false k r m h g = g
+
+else-most : (k r m : ℕ) → k ≤ m → r ≤ m → orElse k r ≤ m
+else-most zero r m h g = g
+else-most (suc k) r m h g = h
+
+heading-most : (s : List ℕ) → headingRefusal s ≤ 10
+unfolding headingRefusal
+heading-most s =
+    let a = when-most (not (eqb (length s) (lengthOf (sizeOf s)))) 6 0 10 (omega arith) (omega arith) in
+    let b = when-most (noSize (sizeOf s)) 5 _ 10 (omega arith) a in
+    let c = when-most (not (isHold (holdOf s))) 4 _ 10 (omega arith) b in
+    let d = when-most (not (eqb (two s versionAt) 1)) 3 _ 10 (omega arith) c in
+    let e = when-most (not (isMark s)) 2 _ 10 (omega arith) d in
+    when-most (ltb (length s) 8) 1 _ 10 (omega arith) e
+
+contents-most : (P : Parts) → contentsRefusal P ≤ 10
+unfolding contentsRefusal
+contents-most P =
+    let a = when-most (not (isLayout (P .right-layout))) 10 0 10 (omega arith) (omega arith) in
+    let b = when-most (not (isLayout (P .left-layout))) 10 _ 10 (omega arith) a in
+    let c = when-most (not (oneToOne (P .size) (P .links))) 9 _ 10 (omega arith) b in
+    let d = when-most (breaksRule (P .size) (P .right-rows)) 8 _ 10 (omega arith) c in
+    when-most (breaksRule (P .size) (P .left-rows)) 7 _ 10 (omega arith) d
+
+refusal-most : (s : List ℕ) → refusal s ≤ 10
+unfolding refusal
+refusal-most s = else-most (headingRefusal s) (contentsRefusal (parts s)) 10 (heading-most s) (contents-most (parts s))
+
+told-never : (s : List ℕ) (side row k : ℕ) → 10 < k → k ≢ 13 → k ≢ 15 → pinRefusal s side row ≢ k
+told-never s side row k far not-13 not-15 e = go (isSide side) refl (refusal s) refl (noRow (sizeOf s) row) refl
+  where
+    go : (b : Bool) → isSide side ≡ b → (r : ℕ) → refusal s ≡ r → (c : Bool) → noRow (sizeOf s) row ≡ c → ⊥
+    go false b r f c g = not-13 (sym (pinning-13 s side row b ∙ e))
+    go true b (suc r) f c g =
+        let same = pinning-record s side row b (λ z. omega (arith, f, z)) in omega (arith, same, e, far, refusal-most s)
+    go true b zero f true g = not-15 (sym (pinning-15 s side row b f g ∙ e))
+    go true b zero f false g = let same = pinning-0 s side row b f g in omega (arith, same, e, far)
+
 pub pin-only : PinPromise
 pin-only s side row pinned answer s′ o =
     let number = ap (λ a. a .number) (o .answers) in
-    let k = kept s side row pinned s′ (accepted (pinRefusal s side row)) refl (o .afterwards) in
+    let k = kept s side row pinned s′ (o .afterwards) in
     record {
       pins-the-row = λ z. pins-it s side row pinned s′ (sym number ∙ z) (o .afterwards);
       keeps-the-turnings = k .turnings;
@@ -199,4 +241,6 @@ pin-only s side row pinned answer s′ o =
       then-the-record = λ h z. number ∙ sym (pinning-record s side row h z);
       then-the-row = λ h a r. number ∙ sym (pinning-15 s side row h a r);
       or-none = λ h a r. number ∙ sym (pinning-0 s side row h a r);
+      never-11 = λ z. told-never s side row 11 (omega arith) (λ e. omega (arith, e)) (λ e. omega (arith, e)) (sym number ∙ z);
+      never-22 = λ z. told-never s side row 22 (omega arith) (λ e. omega (arith, e)) (λ e. omega (arith, e)) (sym number ∙ z);
     }

@@ -40,6 +40,7 @@ use Rattle.calls_hands.proofs.HandLists.{handing-accepted}
 use Rattle.calls_hands.proofs.Handed.{pinned-kept}
 use Rattle.promises.specs.PinnedStays as PinnedStays
 use Rattle.promises.specs.PinnedStays.{PinnedAbove, PinsKept, AllPinned, StoodStill}
+use Rattle.promises.proofs.Afterwards.{afterwards}
 use Rattle.promises.proofs.HeldStays.{ran-fits, handed-fits}
 use Rattle.promises.proofs.PinOnly.{pin-only}
 
@@ -82,20 +83,18 @@ pins-kept s s′ trees p m = record {
 -- a record with new layouts that keep them, or one that is as it was
 either : (s s′ : List ℕ) (new : Layouts) (k : ℕ) → s′ ≡ cond (accepted k) (relaid s new) s →
     (k ≡ 0 → (a : refusal s ≡ 0) × Fits (accepted-fair s a) new × Stay (layoutsOf s) new × Marks (layoutsOf s) new) → PinsKept s s′
-either s s′ new k e f = go (eqb k 0) refl e
+either s s′ new k e f =
+    afterwards (PinsKept s) k e (λ z. made (f z)) (pins-kept s s (λ side. refl) (λ side row h. refl) (λ side row. refl))
   where
-    go : (b : Bool) → eqb k 0 ≡ b → s′ ≡ cond b (relaid s new) s → PinsKept s s′
-    go true p q =
-        let h = f (eqb-true k 0 p) in
+    made : (a : refusal s ≡ 0) × Fits (accepted-fair s a) new × Stay (layoutsOf s) new × Marks (layoutsOf s) new → PinsKept s (relaid s new)
+    made h =
         let a = h .0 in
         let z = accepted-sized s a in
         let l = fits-long s a new (h .1) left in
         let r = fits-long s a new (h .1) right in
-        let laid : layoutsOf s′ ≡ new = ap layoutsOf q ∙ layouts-of-relaid s z new l r in
-        let table : tableOf s′ ≡ tableOf s = ap tableOf q ∙ table-relaid s z new l r in
-        pins-kept s s′ (λ side. ap (λ T. T .tree side) table) (subst (Stay (layoutsOf s)) (sym laid) (h .2))
-        (subst (Marks (layoutsOf s)) (sym laid) (h .3))
-    go false p q = subst (PinsKept s) (sym q) (pins-kept s s (λ side. refl) (λ side row h. refl) (λ side row. refl))
+        let laid = sym (layouts-of-relaid s z new l r) in
+        pins-kept s (relaid s new) (λ side. ap (λ T. T .tree side) (table-relaid s z new l r)) (subst (Stay (layoutsOf s)) laid (h .2))
+        (subst (Marks (layoutsOf s)) laid (h .3))
 
 -- ---- turns
 
@@ -130,13 +129,12 @@ handed-marks (h ∷ hs) at x i = handed-marks hs _ x i ∙ by (sideOf (h .side))
 
 reheld : (s s′ : List ℕ) (letter k : ℕ) → s′ ≡ cond (accepted k) (set s 5 letter) s → (k ≡ 0 → refusal s ≡ 0) →
     (layoutsOf s′ ≡ layoutsOf s) × (tableOf s′ ≡ tableOf s)
-reheld s s′ letter k e f = go (eqb k 0) refl e
-  where
-    go : (b : Bool) → eqb k 0 ≡ b → s′ ≡ cond b (set s 5 letter) s → (layoutsOf s′ ≡ layoutsOf s) × (tableOf s′ ≡ tableOf s)
-    go true p q =
-        let same = parts-rehold s letter (omega (arith, accepted-heading s (f (eqb-true k 0 p)) .long)) in
-        (ap layoutsOf q ∙ ap layoutsIn same, ap tableOf q ∙ ap tableIn same)
-    go false p q = (ap layoutsOf q, ap tableOf q)
+reheld s s′ letter k e f =
+    afterwards (λ r. (layoutsOf r ≡ layoutsOf s) × (tableOf r ≡ tableOf s)) k e
+    (λ z.
+    let same = parts-rehold s letter (omega (arith, accepted-heading s (f z) .long)) in
+    (ap layoutsIn same, ap tableIn same))
+    (refl, refl)
 
 -- ---- every row pinned
 
@@ -179,11 +177,10 @@ module _ (s : List ℕ) (allowance : ℕ) (all : (side : Side) → AllPinned s s
       table-run (tableOf s) (accepted-fair s a) allowance (layoutsOf s) (accepted-fits s a) .is-after
       ∙ after-standing (tableOf s) (layoutsOf s) (λ side. stands s a side (all side)) (ranTo s allowance .turns) left
 
-  run-all : (s′ : List ℕ) (b : Bool) → eqb (runRefusal s allowance) 0 ≡ b → s′ ≡ cond b (relaid s (ranTo s allowance .last)) s → s′ ≡ s
-  run-all s′ true p q =
-      let e = eqb-true (runRefusal s allowance) 0 p in
-      q ∙ ap (relaid s) (run-same e) ∙ relaid-same s (accepted-sized s (running-good s allowance e .1))
-  run-all s′ false p q = q
+  run-all : (s′ : List ℕ) → s′ ≡ cond (accepted (runRefusal s allowance)) (relaid s (ranTo s allowance .last)) s → s′ ≡ s
+  run-all s′ q =
+      afterwards (λ r. r ≡ s) (runRefusal s allowance) q
+      (λ e. ap (relaid s) (run-same e) ∙ relaid-same s (accepted-sized s (running-good s allowance e .1))) refl
 
   run-still : (answer : Ran) (s′ : List ℕ) → Runs s allowance answer s′ → answer .refusal .number ≡ 0 → 2 ≤ allowance → StoodStill answer
   run-still answer s′ o z two =
@@ -237,6 +234,6 @@ pinned-stays = record {
   pin = λ s side row pinned answer s′ o. pin-only s side row pinned answer s′ o .keeps-the-turnings;
   free-all-pinned = free-all;
   run-all-pinned = λ s allowance answer s′ o all.
-      run-all s allowance all s′ (eqb (runRefusal s allowance) 0) refl (o .afterwards);
+      run-all s allowance all s′ (o .afterwards);
   run-stood-still = λ s allowance answer s′ o all z two. run-still s allowance all answer s′ o z two;
 }

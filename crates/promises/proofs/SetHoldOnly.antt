@@ -1,12 +1,11 @@
 -- Setting the hold writes byte 5 or nothing, and tests the letter before the record.
-use mathlib.Core.Path.{_≡_, refl, sym, ap, _∙_, subst}
+use mathlib.Core.Path.{_≡_, refl, sym, ap, _∙_}
 use mathlib.Core.Bool.{Bool, true, false, cond}
 use mathlib.Core.List.{List}
 use mathlib.Core.Logic.{_≢_}
 use Prim.Native.Nat.{ℕ}
 use native.Mathlib.Omega.{arith}
-use borrow.Author.Tests.{eq-eqb, eqb-true}
-use lib.Dec.{eqb}
+use borrow.Author.Tests.{eq-eqb}
 use lib.ListN.{length, getD, set, length-set}
 use lib.Seq.{getD-set-same, getD-set-other}
 use Rattle.tanglegram.specs.Run.{Side}
@@ -19,6 +18,7 @@ use Rattle.record_fields.proofs.Rehold.{parts-rehold, size-rehold, rehold-accep
 use Rattle.record_arrays.specs.Shown.{shownOrder}
 use Rattle.promises.specs.HeldStays.{SameTrees}
 use Rattle.promises.specs.SetHoldOnly.{SetHoldPromise}
+use Rattle.promises.proofs.Afterwards.{afterwards}
 use Rattle.promises.proofs.HeldStays.{trees-same}
 
 -- the letter written, or nothing
@@ -45,17 +45,13 @@ module _ (s : List ℕ) (letter : ℕ) where
 
   trees : (after : List ℕ) (k : ℕ) → after ≡ cond (accepted k) (set s 5 letter) s →
       (k ≡ 0 → (isHold letter ≡ true) × (refusal s ≡ 0)) → SameTrees s after × ((side : Side) → shownOrder after side ≡ shownOrder s side)
-  trees after k e f = go (eqb k 0) refl e
-    where
-      go : (b : Bool) → eqb k 0 ≡ b → after ≡ cond b (set s 5 letter) s →
-          SameTrees s after × ((side : Side) → shownOrder after side ≡ shownOrder s side)
-      go true p q =
-          let good = f (eqb-true k 0 p) in
-          let same = parts-rehold s letter (omega (arith, accepted-heading s (good .1) .long)) in (
-            subst (SameTrees s) (sym q) (reheld-trees (good .1) (good .0)),
-            λ side. ap (λ r. shownOrder r side) q ∙ ap (λ P. orderOf (tableIn P) (layoutsIn P) side) same,
-          )
-      go false p q = (subst (SameTrees s) (sym q) (trees-same s), λ side. ap (λ r. shownOrder r side) q)
+  trees after k e f =
+      afterwards (λ r. SameTrees s r × ((side : Side) → shownOrder r side ≡ shownOrder s side)) k e
+      (λ z.
+      let good = f z in
+      let same = parts-rehold s letter (omega (arith, accepted-heading s (good .1) .long)) in
+      (reheld-trees (good .1) (good .0), λ side. ap (λ P. orderOf (tableIn P) (layoutsIn P) side) same))
+      (trees-same s, λ side. refl)
 
 pub set-hold-only : SetHoldPromise
 unfolding setHoldRefusal

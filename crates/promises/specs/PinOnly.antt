@@ -44,6 +44,9 @@ pub record PinOnly (s : List ℕ) (side row : ℕ) (pinned : Bool) (answer : Ref
   pub then-the-record : isSide side ≡ true → refusal s ≢ 0 → answer .number ≡ refusal s
   pub then-the-row : isSide side ≡ true → refusal s ≡ 0 → noRow (sizeOf s) row ≡ true → answer .number ≡ 15
   pub or-none : isSide side ≡ true → refusal s ≡ 0 → noRow (sizeOf s) row ≡ false → answer .number ≡ 0
+  -- So never 11, whatever is held, and never 22.
+  pub never-11 : answer .number ≢ 11
+  pub never-22 : answer .number ≢ 22
 
 abbrev pub PinPromise : Type 0
 PinPromise =
