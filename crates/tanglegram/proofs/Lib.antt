@@ -4,6 +4,7 @@ pub mod Tree
 pub mod Write
 pub mod Bytes
 pub mod Order
+pub mod PinnedAs
 pub mod Standing
 pub mod Compatible
 pub mod Sums
@@ -18,5 +19,6 @@ pub mod Entanglement
 pub mod Thousandths
 pub mod Turning
 pub mod Table
+pub mod TakenIn
 pub mod OwnPairs
 pub mod Examples

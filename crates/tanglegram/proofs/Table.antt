@@ -23,7 +23,7 @@ use Rattle.tanglegram.proofs.Run.{Freeing, run-ends}
 
 -- ---- putting a side's layout
 
-layout-put : (side : Side) (lay : List ℕ) (s : Layouts) → layout (put side lay s) side ≡ lay
+pub layout-put : (side : Side) (lay : List ℕ) (s : Layouts) → layout (put side lay s) side ≡ lay
 layout-put left lay s = refl
 layout-put right lay s = refl
 
