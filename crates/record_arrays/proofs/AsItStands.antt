@@ -114,10 +114,7 @@ module _ (s : List ℕ) (n : ℕ) (g : RecordOver s n) where
         ∙ tree-filled found (sideRows side) n full rows-long (g .sized .most) (g .sized .some) (side-rule side)
         ∙ side-tree side
 
-    pub filled-laid : (lay W : List ℕ) → lay ≡ layout (layoutsOf s) side → W ≡ exchanged T lay →
-        LaidOut (tableOf s .tree side) n (layout (layoutsOf s) side) W
-    filled-laid lay W h e =
-        let some = g .sized .some in
+    pub filled-laid : (lay W : List ℕ) → length lay + 1 ≡ n → W ≡ exchanged T lay → LaidOut (tableOf s .tree side) n lay W
+    filled-laid lay W long e =
         let k = filled-size in
-        let long = ap length h ∙ length-part side in
-        rw (filled-tree, filled-size, h) at (laid-out T lay W filled-good (omega arith) e)
+        rw (filled-tree, filled-size) at (laid-out T lay W filled-good (omega arith) e)

@@ -5,9 +5,9 @@ use mathlib.Core.List.{List}
 use lib.ListN.{take}
 use Rattle.tanglegram.specs.Run.{left, right}
 use Rattle.record_fields.specs.Fields.{parts}
-use Rattle.record_fields.specs.Meaning.{tableOf, layoutsOf}
+use Rattle.record_fields.specs.Meaning.{tableOf}
 use Rattle.work_orders.specs.Between.{Between}
-use Rattle.work_linked_trees.specs.Memory.{InMemory, layoutsFrom}
+use Rattle.work_linked_trees.specs.Memory.{InMemory}
 use Rattle.record_arrays.specs.Shown.{shownOrder}
 
 -- Into both orders and the links.
@@ -17,8 +17,7 @@ pub record OrdersTaken (s : List ℕ) (n : ℕ) (σ τ links : List ℕ) : Type 
   pub its-links : take n links ≡ parts s .links
   pub between : Between n links σ τ
 
--- Into both trees with their layouts applied, the layouts and the links.
-pub record TakenApart (s : List ℕ) (n : ℕ) (links L l R r : List ℕ) : Type 0 where
+-- Into both trees, the layouts l and r applied, and the links.
+pub record TreesTaken (s : List ℕ) (n : ℕ) (links L l R r : List ℕ) : Type 0 where
   pub memory : InMemory (tableOf s .tree left) (tableOf s .tree right) n links L l R r
   pub its-links : take n links ≡ parts s .links
-  pub its-layouts : layoutsFrom l r ≡ layoutsOf s

@@ -5,16 +5,28 @@ ghost use mathlib.Core.Path.{_≡_};
 ghost use Prim.Native.Nat.{_+_};
 ghost use lib.ListN.{drop, length};
 ghost use Rattle.record_fields.specs.Meaning.{layoutsOf, tableOf};
-ghost use Rattle.record_arrays.specs.Apart.{OrdersTaken, TakenApart};
+ghost use Rattle.record_arrays.specs.Apart.{OrdersTaken, TreesTaken};
 ghost use Rattle.record_arrays.specs.Sides.{RecordOver, sideOf};
 ghost use Rattle.tanglegram.specs.Table.{layout, orderOf};
+ghost use Rattle.work_linked_trees.specs.Memory.{layoutsFrom};
 ghost use Rattle.work_trees.specs.Exchange.{LaidOut};
 use crate::places::layout_at;
 use crate::places::rows_at;
 use record_fields::copying::bytes_in;
 use record_fields::fields::links_at;
 
-// Fills a row array with a side's rows, its layout applied.
+// Fills a row array with a side's rows, the layout applied that is lent.
+fn lay_out(s: &[u8], n: u16, side: u16, lay: &[u8], rows: &mut [u16; 1023])
+    requires { ⌜ RecordOver (now s) n × (length (now lay) + 1 ≡ n) × (length (now rows) ≡ 1023) ⌝ }
+    ensures { λ _. ⌜
+        LaidOut (tableOf (now (s .entry)) .tree (sideOf side)) n (now (lay .entry)) (now (rows .exit))
+        ⌝ }
+{
+    record_fields::fill_rows(s, rows_at(n, side), n, rows);
+    work_trees::exchange(rows, lay);
+}
+
+// Fills a row array with a side's rows, its own layout applied.
 pub fn fill_side(s: &[u8], n: u16, side: u16, rows: &mut [u16; 1023])
     requires { ⌜ RecordOver (now s) n × (length (now rows) ≡ 1023) ⌝ }
     ensures { λ _. ⌜
@@ -22,14 +34,13 @@ pub fn fill_side(s: &[u8], n: u16, side: u16, rows: &mut [u16; 1023])
         (now (rows .exit))
         ⌝ }
 {
-    record_fields::fill_rows(s, rows_at(n, side), n, rows);
     let from = layout_at(n, side);
     let to = from + (n as usize - 1);
-    work_trees::exchange(rows, &s[from..to]);
+    lay_out(s, n, side, &s[from..to], rows);
 }
 
 // Copies a side's layout.
-fn fill_layout(s: &[u8], n: u16, side: u16, lay: &mut [u8])
+pub fn fill_layout(s: &[u8], n: u16, side: u16, lay: &mut [u8])
     requires { ⌜ RecordOver (now s) n × (length (now lay) + 1 ≡ n) ⌝ }
     ensures { λ _. ⌜ now (lay .exit) ≡ layout (layoutsOf (now (s .entry))) (sideOf side) ⌝ }
 {
@@ -68,26 +79,33 @@ pub fn take_orders(
     record_fields::fill_links(s, links_at(n), n, links);
 }
 
-// Writes both trees, their layouts and the links.
-pub fn take_apart(
+// Copies both layouts.
+pub fn take_layouts(s: &[u8], n: u16, leftlay: &mut [u8], rightlay: &mut [u8])
+    requires { ⌜ RecordOver (now s) n × (length (now leftlay) + 1 ≡ n) × (length (now rightlay) + 1 ≡ n) ⌝ }
+    ensures { λ _. ⌜ layoutsFrom (now (leftlay .exit)) (now (rightlay .exit)) ≡ layoutsOf (now (s .entry)) ⌝ }
+{
+    fill_layout(s, n, 1, leftlay);
+    fill_layout(s, n, 2, rightlay);
+}
+
+// Writes both trees, the layouts applied that are lent, and the links.
+pub fn take_trees(
     s: &[u8],
     n: u16,
+    leftlay: &[u8],
+    rightlay: &[u8],
     left: &mut [u16; 1023],
     right: &mut [u16; 1023],
     links: &mut [u16; 512],
-    leftlay: &mut [u8],
-    rightlay: &mut [u8],
 )
     requires { ⌜ RecordOver (now s) n × (length (now leftlay) + 1 ≡ n) × (length (now rightlay) + 1 ≡ n) ⌝ }
     requires { ⌜ (length (now left) ≡ 1023) × (length (now right) ≡ 1023) × (length (now links) ≡ 512) ⌝ }
     ensures { λ _. ⌜
-        TakenApart (now (s .entry)) n (now (links .exit)) (now (left .exit)) (now (leftlay .exit)) (now (right .exit))
-        (now (rightlay .exit))
+        TreesTaken (now (s .entry)) n (now (links .exit)) (now (left .exit)) (now (leftlay .entry)) (now (right .exit))
+        (now (rightlay .entry))
         ⌝ }
 {
-    fill_side(s, n, 1, left);
-    fill_side(s, n, 2, right);
+    lay_out(s, n, 1, leftlay, left);
+    lay_out(s, n, 2, rightlay, right);
     record_fields::fill_links(s, links_at(n), n, links);
-    fill_layout(s, n, 1, leftlay);
-    fill_layout(s, n, 2, rightlay);
 }

@@ -2,4 +2,5 @@
 mod working;
 
 pub use working::free_record;
+pub use working::free_with;
 pub use working::run_record;

@@ -1,3 +1,4 @@
 pub mod Reading
 pub mod Prefix
 pub mod Matched
+pub mod RowPins

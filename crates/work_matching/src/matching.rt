@@ -7,7 +7,7 @@ ghost use lib.ListN.{length, take};
 ghost use Rattle.tanglegram.specs.Lists.{bit};
 ghost use Rattle.tanglegram.specs.Order.{reading};
 ghost use Rattle.work_trees.specs.Rows.{GoodRows, size, treeOf};
-ghost use Rattle.work_matching.specs.Match.{orderIn, Tells, Matches};
+ghost use Rattle.work_matching.specs.Match.{orderIn, Matches};
 use work_trees::layout_order;
 use work_trees::note_places;
 
@@ -69,15 +69,4 @@ pub fn match_layout(rows: &[u16; 1023], xs: &[u16; 512], lay: &mut [u8]) -> bool
     read_layout(rows, xs, lay);
     layout_order(rows, lay, &mut out);
     agree(&out, xs, n)
-}
-
-// Whether the first n entries of xs are a compatible order.
-pub fn compatible(rows: &[u16; 1023], xs: &[u16; 512]) -> bool
-    requires { ⌜ GoodRows (now rows) ⌝ }
-    requires { ⌜ length (now xs) ≡ 512 ⌝ }
-    ensures { λ r. ⌜ Tells (now (rows .entry)) (now (xs .entry)) r ⌝ }
-{
-    let n = rows[1022] as usize;
-    let mut lay = [0u8; 512];
-    match_layout(rows, xs, &mut lay[..n - 1])
 }

@@ -1,34 +1,17 @@
--- `run_apart`: the record's table is in the arrays, the turns are taken there, and the layouts go back.
-use mathlib.Core.Path.{refl}
-use Rattle.work_linked_trees.proofs.SideFreed.{memory-now}
-use Rattle.work_turns.proofs.Taken.{run-then}
+-- `run_apart`: the turns are taken from the record's own layouts, and these go back.
 use Rattle.record_turns.proofs.Apart.{record-ran}
 use borrow.Author.Needs.{needs}
 use Rattle.record_turns.proofs.working.run_apart.Statement.{statement}
 use Rattle.record_turns.proofs.working.run_apart.Tie as tie
 
-abbrev startOf : tie.After-take-apart → tie.Start
-startOf c = c .before .before .before .before .before .before .before .before .before .before
+take-layouts-requires : tie.Need-take-layouts-requires
+take-layouts-requires c κs = search needs
 
-abbrev apartOf : tie.After-take-turns → tie.After-take-apart
-apartOf c = c .before .before .before .before .before .before .before .before .before .before
-
-take-apart-requires : tie.Need-take-apart-requires
-take-apart-requires c κs =
-    let s = c .before .before .before .before .before .before .before .before .before in
-    ((s .pre .0 .0, s .pre .1 .0, s .pre .1 .1), (refl, refl, refl))
-
-take-turns-requires : tie.Need-take-turns-requires
-take-turns-requires c κs =
-    let v = c .before .before .before .before .before .before .before .before .before in
-    (memory-now (v .take-apart .ensures .memory), startOf v .pre .0 .1)
+run-with-requires : tie.Need-run-with-requires
+run-with-requires c κs = search needs
 
 put-back-requires : tie.Need-put-back-requires
-put-back-requires c κs =
-    let w = c .before .before .before .before .before .before .before in
-    let v = apartOf w in
-    let m = run-then (v .take-apart .ensures .memory) (w .take-turns .ensures) .in-memory in
-    (startOf v .pre .0 .0, m .left-side .long, m .right-side .long)
+put-back-requires c κs = search needs
 
 same-length : tie.Need-same-length
 same-length c = search needs
@@ -43,15 +26,15 @@ returns : tie.Need-returns
 returns c =
     let p = c .before .before in
     let w = p .before .before .before .before .before .before .before .before in
-    let v = apartOf w in
-    record-ran (startOf v .pre .0 .0) (v .take-apart .ensures) (p .put-back .ensures) (w .take-turns .ensures)
+    let v = w .before .before .before .before .before .before .before .before in
+    record-ran (v .take-layouts .ensures) (p .put-back .ensures) (w .run-with .ensures)
 
 pub run-apart-spec : {M : Type 1} → statement M
 run-apart-spec =
     tie.close
     (tie.spec
-    take-apart-requires
-    take-turns-requires
+    take-layouts-requires
+    run-with-requires
     put-back-requires
     same-length
     same-length-2
