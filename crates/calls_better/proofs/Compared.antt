@@ -19,11 +19,12 @@ use Rattle.record_fields.proofs.Told.{told-none, alone-when, alone-0, own-when,
 use Rattle.record_arrays.specs.Sides.{RecordOver, isSide, sideOf}
 use Rattle.record_fields.specs.declared.refusal.Refusal.{Refusal}
 use Rattle.calls_better.specs.declared.answers.Compared.{Compared}
-use Rattle.calls_better.specs.Refusals.{isOrder, betterRefusal}
+use Rattle.record_orders.specs.Proposed.{isOrder}
+use Rattle.calls_better.specs.Refusals.{betterRefusal}
 use Rattle.calls_better.specs.Calls.{countWith, firstBetter, betterPart, betterWhich, Address, Betters}
 use Rattle.calls_better.specs.Calls.{Compares, BetterChecks}
 use Rattle.record_arrays.proofs.AsItStands.{over-n}
-use Rattle.calls_better.proofs.Proposed.{order-within}
+use Rattle.record_orders.proofs.Proposals.{order-within}
 
 -- The first n entries of xs are an order of a side of s.
 abbrev pub Proposes : List ℕ → ℕ → ℕ → List ℕ → Type 0

@@ -1,2 +1,2 @@
-pub mod Proposed
+pub mod CountWith
 pub mod Compared

@@ -4,12 +4,12 @@ ghost use denote.Ref.{ptr};
 ghost use mathlib.Core.Path.{_≡_};
 ghost use Rattle.record_fields.specs.Meaning.{tableOf};
 ghost use Rattle.calls_better.specs.Calls.{BetterChecks, Betters, Compares, countWith};
-ghost use Rattle.calls_better.specs.Refusals.{betterRefusal, isOrder};
+ghost use Rattle.calls_better.specs.Refusals.{betterRefusal};
 ghost use Rattle.record_arrays.specs.Sides.{RecordOver, isSide, sideOf};
+ghost use Rattle.record_orders.specs.Proposed.{isOrder};
 use crate::answers::Compared;
 use record::told;
 use record_arrays::is_side;
-use record_arrays::rows_at;
 use record_arrays::side_order;
 use record_fields::copying::copied;
 use record_fields::fields::links_at;
@@ -17,23 +17,8 @@ use record_fields::refusal::ORDER;
 use record_fields::refusal::Refusal;
 use record_fields::refusal::SIDE;
 use record_fields::refusal::refused;
+use record_orders::is_order;
 use work_orders::crossings_seen;
-
-// Whether the first n entries of a lent order are an order of a side of an accepted record.
-fn is_order(s: &[u8], n: u16, side: u16, xs: &[u16]) -> bool
-    requires { ⌜ RecordOver (now s) n ⌝ }
-    ensures { λ r. ⌜ r ≡ isOrder n (tableOf (now (s .entry)) .tree (sideOf side)) (now (xs .entry)) ⌝ }
-{
-    let k = n as usize;
-    if xs.len() < k {
-        return false;
-    }
-    let mut order = [0u16; 512];
-    copied(&xs[..k], &mut order);
-    let mut rows = [0u16; 1023];
-    record_fields::fill_rows(s, rows_at(n, side), n, &mut rows);
-    work_matching::compatible(&rows, &order)
-}
 
 // The count of an accepted record with a side's order replaced by the first n entries of a lent one.
 fn count_with(s: &[u8], n: u16, side: u16, xs: &[u16]) -> u32

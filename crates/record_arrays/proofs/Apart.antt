@@ -3,8 +3,8 @@ use Prim.Native.Nat.{ℕ, _+_, _-_, _≤_}
 use mathlib.Core.Path.{_≡_, sym, ap, ap₂, _∙_}
 use mathlib.Core.List.{List, [], _++_, append-assoc}
 use native.Mathlib.Omega.{arith}
-use lib.ListN.{length, take, drop, length-append, length-take, length-drop, drop-of-length-le}
-use lib.Seq.{sets, sets-eq, take-at}
+use lib.ListN.{length, take, drop, replicate, length-append, length-take, length-drop, drop-of-length-le}
+use lib.Seq.{sets, sets-eq, take-at, length-take-le}
 use Rattle.tanglegram.specs.Tree.{leaves}
 use Rattle.tanglegram.specs.Run.{Side, left, right}
 use Rattle.tanglegram.specs.Table.{layout, orderOf}
@@ -20,6 +20,10 @@ use Rattle.record_fields.proofs.RowArrays.{take-sets}
 use Rattle.work_linked_trees.specs.Memory.{layoutsFrom}
 use Rattle.record_arrays.specs.Sides.{RecordOver}
 use Rattle.record_arrays.proofs.AsItStands.{side-perm, side-links, linked-once}
+
+-- an array of 512 has a byte for each row
+pub layout-room : (n : ℕ) → n ≤ 512 → length (take (n - 1) (replicate {A = ℕ} 512 0)) ≡ n - 1
+layout-room n h = length-take-le (n - 1) (replicate {A = ℕ} 512 0) (omega arith)
 
 -- as many stores as a list has places
 pub sets-whole : (l vs : List ℕ) → length vs ≡ length l → sets l 0 vs ≡ vs

@@ -70,3 +70,5 @@ pub const ENTRY: u16 = 20;
 pub const TWICE: u16 = 21;
 // a hand list names a pinned row
 pub const PINNED: u16 = 22;
+// a proposed order is compatible, but turns a pinned row otherwise than it is
+pub const AGAINST_PIN: u16 = 23;

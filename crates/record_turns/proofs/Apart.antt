@@ -1,10 +1,8 @@
 -- A record taken apart: the table in its arrays is its own, so what freeing and a run make of the arrays is what they make of the record.
-use Prim.Native.Nat.{ℕ, _-_, _≤_}
+use Prim.Native.Nat.{ℕ}
 use mathlib.Core.Path.{_≡_, sym, ap, ap₂, _∙_}
 use mathlib.Core.List.{List}
-use native.Mathlib.Omega.{arith}
-use lib.ListN.{length, take, replicate}
-use lib.Seq.{length-take-le}
+use lib.ListN.{take}
 use Rattle.tanglegram.specs.Lists.{bit}
 use Rattle.tanglegram.specs.Run.{Side, left, right, run}
 use Rattle.tanglegram.specs.Table.{Layouts, linked, crossings, free}
@@ -74,7 +72,3 @@ module _ {s s′ : List ℕ} {at at′ : Layouts} (own : at ≡ layoutsOf s) (ba
         ended = f .ended ∙ ap (λ e. bit (e .settled)) end;
         afterwards = back ∙ ap (relaid s) (f .afterwards ∙ ap (λ e. e .last) end);
       }
-
--- an array of 512 has a byte for each row
-pub layout-room : (n : ℕ) → n ≤ 512 → length (take (n - 1) (replicate {A = ℕ} 512 0)) ≡ n - 1
-layout-room n h = length-take-le (n - 1) (replicate {A = ℕ} 512 0) (omega arith)

@@ -5,5 +5,4 @@ mod pins;
 
 pub use matching::match_layout;
 pub use matching::read_layout;
-pub use pins::against_pins;
-pub use pins::pin_as;
+pub use pins::keep_pins;

@@ -1,8 +1,10 @@
-// A layout and another one's pins: whether it turns a pinned row otherwise, and the same layout with these pins.
+// A layout and another one's pins: whether it turns a pinned row otherwise, and if not, the same layout with these
+// pins.
 ghost use mathlib.Core.Path.{_≡_};
 ghost use mathlib.Core.Bool.{not, _&&_};
 ghost use lib.ListN.{length};
 ghost use Rattle.tanglegram.specs.Order.{againstPins, mayChange, pinnedAs, turnedOtherwise};
+ghost use Rattle.work_matching.specs.Match.{PinsKept};
 use work_trees::is_turned;
 use work_trees::may_change;
 use work_trees::with_pin;
@@ -21,7 +23,7 @@ fn turns_pinned(p: u8, x: u8) -> bool
 }
 
 // Whether some row that is pinned in `pins` is turned otherwise in `lay`.
-pub fn against_pins(pins: &[u8], lay: &[u8]) -> bool
+fn against_pins(pins: &[u8], lay: &[u8]) -> bool
     requires { ⌜ length (now pins) ≡ length (now lay) ⌝ }
     ensures { λ r. ⌜ r ≡ againstPins (now (pins .entry)) (now (lay .entry)) ⌝ }
 {
@@ -36,7 +38,7 @@ pub fn against_pins(pins: &[u8], lay: &[u8]) -> bool
 }
 
 // Pins each row of `lay` that is pinned in `pins`, and unpins the others; each is turned as it was.
-pub fn pin_as(pins: &[u8], lay: &mut [u8])
+fn pin_as(pins: &[u8], lay: &mut [u8])
     requires { ⌜ length (now pins) ≡ length (now lay) ⌝ }
     ensures { λ _. ⌜ now (lay .exit) ≡ pinnedAs (now (pins .entry)) (now (lay .entry)) ⌝ }
 {
@@ -45,4 +47,16 @@ pub fn pin_as(pins: &[u8], lay: &mut [u8])
         lay[i] = with_pin(!may_change(pins[i]), lay[i]);
         i += 1;
     }
+}
+
+// Whether `lay` turns each row that is pinned in `pins` as it is there. If so, `lay` is pinned as `pins` is.
+pub fn keep_pins(pins: &[u8], lay: &mut [u8]) -> bool
+    requires { ⌜ length (now pins) ≡ length (now lay) ⌝ }
+    ensures { λ r. ⌜ PinsKept (now (pins .entry)) (now (lay .entry)) r (now (lay .exit)) ⌝ }
+{
+    if against_pins(pins, lay) {
+        return false;
+    }
+    pin_as(pins, lay);
+    true
 }

@@ -13,7 +13,8 @@ use Rattle.work_places.specs.Arrays.{OneToN}
 use Rattle.record_arrays.specs.Shown.{shownOrder}
 use Rattle.record_arrays.specs.Sides.{sideOf}
 use Rattle.record_arrays.proofs.Apart.{order-taken, order-one, links-taken, links-one}
-use Rattle.calls_better.proofs.Proposed.{order-within, copy-taken, copy-one, counted-left, counted-right}
+use Rattle.record_orders.proofs.Proposals.{order-within, copy-taken, copy-one}
+use Rattle.calls_better.proofs.CountWith.{counted-left, counted-right}
 use borrow.Author.Needs.{needs}
 use Rattle.calls_better.proofs.comparing.count_with.Statement.{statement}
 use Rattle.calls_better.proofs.comparing.count_with.Tie as tie

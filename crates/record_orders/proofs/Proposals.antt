@@ -1,5 +1,4 @@
--- A proposed order: the test accepts exactly the compatible orders, a copy of it in an array is told by the array's test,
--- and an array with it counts what the record counts with it in a side's place.
+-- A proposed order: the test accepts exactly the compatible orders, and a copy of the order in an array is told by the array's test.
 use Prim.Native.Nat.{ℕ, _-_, _≤_, _<_}
 use mathlib.Core.Path.{_≡_, refl, sym, ap, ap₂, _∙_, subst}
 use mathlib.Core.Logic.{_↔_}
@@ -11,27 +10,25 @@ use lib.Dec.{eqb, leb}
 use lib.ListN.{length, take, replicate, length-replicate}
 use lib.Seq.{sets, length-take-le}
 use Rattle.tanglegram.specs.Lists.{Each, range}
-use Rattle.tanglegram.specs.Tree.{rows, leaves}
+use Rattle.tanglegram.specs.Tree.{Tree, rows, leaves}
 use Rattle.tanglegram.specs.Order.{order, reading, Compatible}
-use Rattle.tanglegram.specs.Crossings.{count}
-use Rattle.tanglegram.specs.Run.{Side, left, right}
+use Rattle.tanglegram.specs.Run.{Side}
 use Rattle.tanglegram.proofs.Bools.{and-both}
 use Rattle.tanglegram.proofs.Lists.{all-distinct, each-perm, range-each}
+use Rattle.tanglegram.proofs.Write.{length-write}
 use Rattle.tanglegram.proofs.Order.{order-compatible}
 use Rattle.tanglegram.proofs.Compatible.{compatible-order}
 use Rattle.work_trees.specs.Rows.{size, treeOf}
-use Rattle.work_matching.specs.Match.{Tells}
+use Rattle.work_matching.specs.Match.{Tells, Matches}
 use Rattle.work_places.specs.Arrays.{OneToN}
-use Rattle.record_fields.specs.Fields.{sizeOf, parts}
+use Rattle.record_fields.specs.Fields.{sizeOf}
 use Rattle.record_fields.specs.Refusals.{refusal}
 use Rattle.record_fields.specs.Meaning.{tableOf}
 use Rattle.record_fields.proofs.Meaning.{accepted-fair, accepted-fits}
 use Rattle.record_fields.proofs.RowArrays.{take-sets}
-use Rattle.record_arrays.specs.Shown.{shownOrder}
 use Rattle.record_arrays.specs.Sides.{RecordOver}
-use Rattle.calls_better.specs.Refusals.{same, isOrder}
-use Rattle.calls_better.specs.Calls.{countWith}
 use Rattle.record_arrays.proofs.AsItStands.{over-its-leaves, side-leaves, length-part}
+use Rattle.record_orders.specs.Proposed.{same, shownLayout, isOrder, OrderRead}
 
 -- ---- tests
 
@@ -48,6 +45,11 @@ unfolding same
 same-self [] = refl
 same-self (x ∷ xs) = rw (eq-eqb x x refl) (same-self xs)
 
+-- the layout that an order shows has a byte for each row
+pub length-shown : (n : ℕ) (t : Tree) (xs : List ℕ) → length (shownLayout n t xs) ≡ n - 1
+unfolding reading
+length-shown n t xs = length-write _ t (replicate (n - 1) 0) ∙ length-replicate {A = ℕ} (n - 1) 0
+
 module _ (s : List ℕ) (n : ℕ) (g : RecordOver s n) (side : Side) (xs : List ℕ) where
   -- n - 1 bytes have one for each row of a side
   rows-inside : Each (λ i. (1 ≤ i) × (i ≤ length (replicate {A = ℕ} (n - 1) 0))) (rows (tableOf s .tree side))
@@ -59,8 +61,8 @@ module _ (s : List ℕ) (n : ℕ) (g : RecordOver s n) (side : Side) (xs : List 
       (range-each Inside 1 (fair .row-count side) (λ i p q. (p, omega (arith, length-replicate {A = ℕ} (n - 1) 0))))
 
   -- a compatible order is given by the layout read off it
-  read-off : Compatible (tableOf s .tree side) (take n xs) →
-      order (reading (take n xs) (tableOf s .tree side) (replicate (n - 1) 0)) (tableOf s .tree side) ≡ take n xs
+  pub read-off : Compatible (tableOf s .tree side) (take n xs) →
+      order (shownLayout n (tableOf s .tree side) xs) (tableOf s .tree side) ≡ take n xs
   read-off =
       let t = tableOf s .tree side in
       let fair = accepted-fair s (g .accepted) in
@@ -77,7 +79,7 @@ module _ (s : List ℕ) (n : ℕ) (g : RecordOver s n) (side : Side) (xs : List 
   )
 
   -- too short a list is no order
-  pub is-order-short : length xs < n → false ≡ isOrder n (tableOf s .tree side) xs
+  is-order-short : length xs < n → false ≡ isOrder n (tableOf s .tree side) xs
   unfolding isOrder
   is-order-short h = rw (lt-leb n (length xs) h) refl
 
@@ -89,7 +91,7 @@ module _ (s : List ℕ) (n : ℕ) (g : RecordOver s n) (side : Side) (xs : List 
         let z = g .sized in ap (take n) e ∙ take-sets found (take n xs) n (length-take-le n xs long) (omega arith)
 
     -- the array's test, against a row array with the side's tree, is the order's test
-    pub told : (T : List ℕ) (answer : Bool) → size T ≡ n → treeOf T ≡ tableOf s .tree side → Tells T A answer →
+    told : (T : List ℕ) (answer : Bool) → size T ≡ n → treeOf T ≡ tableOf s .tree side → Tells T A answer →
         answer ≡ isOrder n (tableOf s .tree side) xs
     told T answer k t h = go answer (isOrder n (tableOf s .tree side) xs) refl refl
       where
@@ -99,7 +101,19 @@ module _ (s : List ℕ) (n : ℕ) (g : RecordOver s n) (side : Side) (xs : List 
         go true false p q = sym (is-order-given .1 (long, rw (t, k, copy-taken) at (h .accepts p))) ∙ q
         go false true p q = absurd (h .refuses p (rw (t, k, copy-taken) (is-order-given .0 q .1)))
 
-  -- ---- what it counts
+    -- and so is what it writes
+    pub matched : (T lay after : List ℕ) (answer : Bool) → size T ≡ n → treeOf T ≡ tableOf s .tree side → Matches T A lay answer after →
+        OrderRead s n side xs lay answer after
+    matched T lay after answer k t h = record {
+      tells = told T answer k t (h .tells);
+      writes = h .writes ∙ rw (t, k, copy-taken, le-leb n (length xs) long) refl;
+    }
+
+  -- too short a list shows nothing
+  pub read-short : (lay : List ℕ) → length xs < n → OrderRead s n side xs lay false lay
+  read-short lay h = record { tells = is-order-short h; writes = rw (lt-leb n (length xs) h) refl }
+
+  -- ---- an order of the side
 
   module _ (good : isOrder n (tableOf s .tree side) xs ≡ true) where
     pub order-within : n ≤ length xs
@@ -111,17 +125,6 @@ module _ (s : List ℕ) (n : ℕ) (g : RecordOver s n) (side : Side) (xs : List 
     module _ (found A : List ℕ) (full : length found ≡ 512) (e : A ≡ sets found 0 (take n xs)) where
       pub copy-one : OneToN n A
       copy-one = rw (copy-taken found A full order-within e) proposed-perm
-
--- the count with it in a side's place
-module _ (s : List ℕ) (n : ℕ) (g : RecordOver s n) (xs links A O : List ℕ) (its-links : take n links ≡ parts s .links)
-    (copy : take n A ≡ take n xs) where
-  pub counted-left : take n O ≡ shownOrder s right → count n (take n links) (take n A) (take n O) ≡ countWith s left xs
-  counted-left o =
-      rw (its-links, copy, o) (ap (λ m. count m (parts s .links) (take m xs) (shownOrder s right)) (sym (g .sized .says)))
-
-  pub counted-right : take n O ≡ shownOrder s left → count n (take n links) (take n O) (take n A) ≡ countWith s right xs
-  counted-right o =
-      rw (its-links, copy, o) (ap (λ m. count m (parts s .links) (shownOrder s left) (take m xs)) (sym (g .sized .says)))
 
 -- ---- for any accepted record
 
