@@ -41,6 +41,7 @@ mod sides;
 mod speed;
 mod spelling;
 mod tables;
+mod take_in;
 mod tree;
 
 use std::io::{self, BufWriter, Read, Write};
