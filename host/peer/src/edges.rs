@@ -17,6 +17,7 @@ use crate::pin_edges;
 use crate::random::Random;
 use crate::ratio_edges;
 use crate::sides;
+use crate::take_in_edges;
 
 const SIDES: [u16; 10] = [0, 1, 2, 3, 256, 257, 258, 512, 32769, 65535];
 #[rustfmt::skip]
@@ -29,6 +30,7 @@ const HOLDS: [u8; 4] = [b'N', b'L', b'R', b'B'];
 /// All fixed lines.
 pub fn all() -> Vec<String> {
     let mut all = pin_edges::largest();
+    all.extend(take_in_edges::largest());
     all.extend(examples());
     all.extend(rows_that_break_the_rule());
     all.extend(links_that_are_not_one_to_one());
@@ -43,6 +45,7 @@ pub fn all() -> Vec<String> {
     all.extend(packing_several_faults());
     all.extend(unpacking());
     all.extend(pin_edges::all());
+    all.extend(take_in_edges::all());
     all.extend(newick_edges::all());
     all.extend(merge_edges::all());
     all.extend(sizes());
@@ -62,6 +65,7 @@ fn again() -> Vec<String> {
     calls.extend(letters.map(|letter| lines::hold(&one_leaf().bytes(), letter)));
     calls.extend(sides::far_off(|record, side| lines::newick_write(record, side, &[])));
     calls.extend(sides::far_off(|record, side| lines::merge_write(record, side, &[])));
+    calls.extend(take_in_edges::far_off());
     calls
 }
 
@@ -596,7 +600,7 @@ mod tests {
     fn every_call_meets_every_number_before_it_is_said_again() {
         let first = faults_under_calls(comes_first);
         let words: BTreeSet<&str> = first.iter().filter_map(|line| line.split(' ').next()).collect();
-        assert_eq!(words.len(), 16);
+        assert_eq!(words.len(), 17);
         for word in words.into_iter().filter(|&word| word != "better") {
             let of_word = first.iter().filter(|line| line.split(' ').next() == Some(word));
             let told: BTreeSet<String> = of_word.map(|line| number(line)).collect();

@@ -27,6 +27,7 @@ mod merge;
 mod merge_edges;
 mod newick;
 mod newick_edges;
+mod orders;
 mod pin_edges;
 mod pins;
 mod quick;
@@ -42,6 +43,7 @@ mod speed;
 mod spelling;
 mod tables;
 mod take_in;
+mod take_in_edges;
 mod tree;
 
 use std::io::{self, BufWriter, Read, Write};
