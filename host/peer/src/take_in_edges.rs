@@ -3,6 +3,8 @@
 // one that it does not; several faults at once, so that the order of the tests shows; and holds, which
 // play no part. The longest calls come first.
 
+use std::ops::Range;
+
 use crate::desk::hex;
 use crate::edges::{backwards, example_5, example_6, one_leaf};
 use crate::faults;
@@ -49,10 +51,10 @@ pub fn all() -> Vec<String> {
     all.extend(limits_of_an_order());
     all.extend(entries());
     all.extend(room());
-    all.extend(one_pinned());
+    all.extend(one_pinned(1));
     all.extend(all_pinned());
     all.extend(several_faults());
-    all.extend(any_records());
+    all.extend(any_records(0..10));
     all.extend(zeros_in_front());
     all.extend(sides::of_a_writing_call(3, on_either_side));
     all
@@ -63,9 +65,18 @@ fn on_either_side(record: &[u8], side: u16, places: usize) -> String {
     lines::take_in(record, side, &[1, 2, 3, 4], &vec![7; places])
 }
 
-/// Sides that are far off on faulty records.
-pub fn far_off() -> Vec<String> {
-    sides::far_off(|record, side| on_either_side(record, side, 0))
+/// What says again what these say.
+pub fn again() -> Vec<String> {
+    let mut calls = one_pinned(2);
+    calls.extend(any_records(10..30));
+    calls.extend(faults::others_of_several(3).iter().map(|record| of_no_order(record)));
+    calls.extend(sides::again(3, on_either_side));
+    calls
+}
+
+/// The record is faulty too.
+fn of_no_order(record: &[u8]) -> String {
+    lines::take_in(record, 1, &[1, 1, 1, 1], &[7, 7])
 }
 
 /// With as many places as it wants.
@@ -226,15 +237,13 @@ fn room() -> Vec<String> {
     calls
 }
 
-/// Each row of case 2 pinned by itself, as given or turned over, on either side: every order of the side.
-fn one_pinned() -> Vec<String> {
+/// Each row of a side of case 2 pinned by itself, as given or turned over: every order of the side.
+fn one_pinned(side: u16) -> Vec<String> {
     let mut calls = Vec::new();
-    for side in [1, 2] {
-        for (row, byte) in [(1, 2), (1, 3), (2, 2), (2, 3), (3, 2), (3, 3)] {
-            let mut made = with_hold(case_2(), HOLDS[row]);
-            made.layout_mut(side)[row - 1] = byte;
-            calls.extend(orders_of(side).map(|order| taken(&made, side, &order)));
-        }
+    for (row, byte) in [(1, 2), (1, 3), (2, 2), (2, 3), (3, 2), (3, 3)] {
+        let mut made = with_hold(case_2(), HOLDS[row]);
+        made.layout_mut(side)[row - 1] = byte;
+        calls.extend(orders_of(side).map(|order| taken(&made, side, &order)));
     }
     calls
 }
@@ -267,7 +276,7 @@ fn several_faults() -> Vec<String> {
             calls.push(lines::take_in(&record, side, order, &[]));
         }
     }
-    calls.extend(faults::several().iter().map(|record| lines::take_in(record, 1, &[1, 1, 1, 1], &[7, 7])));
+    calls.extend(faults::some_of_several(3).iter().map(|record| of_no_order(record)));
     for hold in HOLDS {
         let record = with_hold(with_layouts(case_2(), &[0, 2, 3], &[3, 0, 2]), hold).bytes();
         let of = |side, order: &[u16]| {
@@ -286,10 +295,10 @@ fn several_faults() -> Vec<String> {
 
 /// Records of any kind, whatever they hold, with every second or third row pinned: the present order, the
 /// freed one, one that is permitted, one that turns a pinned row, and one with its ends exchanged.
-fn any_records() -> Vec<String> {
-    let mut random = Random::new(8);
+fn any_records(rounds: Range<usize>) -> Vec<String> {
+    let mut random = Random::new(8 + rounds.start as u64);
     let mut calls = Vec::new();
-    for round in 0..20 {
+    for round in rounds {
         let n = 4 + round % 5;
         let made = any_record(n, &mut random).none_pinned().every_pinned(2 + round % 2);
         let side = 1 + round as u16 % 2;
@@ -395,11 +404,11 @@ mod tests {
 
     #[test]
     fn pinned_rows() {
-        let one = numbers(&one_pinned());
+        let one = numbers(&[one_pinned(1), one_pinned(2)].concat());
         assert_eq!(one.iter().filter(|&number| number == "0").count(), one.len() / 2);
         assert_eq!(one.iter().filter(|&number| number == "23").count(), one.len() / 2);
         assert_eq!(told(&all_pinned()), ["0,23,23,23,0,23,23,23,0,0"; 4].join(","));
-        for answers in numbers(&any_records()).chunks(5) {
+        for answers in numbers(&any_records(0..30)).chunks(5) {
             assert_eq!(answers[..4], ["0", "0", "0", "23"]);
             assert!(answers[4] == "16" || answers[4] == "23");
         }
@@ -418,7 +427,7 @@ mod tests {
 
     #[test]
     fn a_refused_call_leaves_the_buffer_and_none_tells_of_a_hold() {
-        for line in all().iter().chain(&largest()).chain(&far_off()) {
+        for line in all().iter().chain(&largest()).chain(&again()) {
             let answer = desk::answer(line.as_bytes());
             let before = line.rsplit(' ').next().unwrap_or_default();
             let after = answer.rsplit(' ').next().unwrap_or_default();
