@@ -1,9 +1,10 @@
 /* Peak stack of every call (tangle.h) on records, texts and merge tables of 512 leaves, by a painted stack. A line for
  * each call and record: call, left tree, right tree, layout bytes (0, 1, 2 for mixed, or 3 for mixed with pins), bytes.
- * For reading a text or a table: call, tree, what the text or the table is, a dash, bytes. The bytes include the few
- * that the harness takes to hand the arguments over. Ends with 1 if a call refuses a good record, text or table or
- * accepts one that is bad, if an order, a text, a table, the rows of one or a pinned record are not those expected, or
- * if two calls that must agree do not. */
+ * For reading a text or a table, and for taking in orders other than the present one: call, tree, what the text, the
+ * table or the order is, a dash, bytes. The bytes include the few that the harness takes to hand the arguments over.
+ * Ends with 1 if a call refuses a good record, text, table or order or accepts one that is bad, if an order, a text, a
+ * table, the rows of one, layout bytes or a pinned record are not those expected, or if two calls that must agree do
+ * not. */
 #include <stdio.h>
 
 #include "../viewer/tangle.h"
@@ -20,6 +21,8 @@ enum { AS_GIVEN, TURNED, MIXED, WITH_PINS, UNPINNED = 4 };
 static uint8_t made[BYTES], s[BYTES], packed[BYTES], left_layout[ROWS], right_layout[ROWS];
 static uint16_t out[N], first[N], second[N], left[2 * ROWS], right[2 * ROWS], links[N];
 static struct tangle_entry list[ENTRIES];
+static uint8_t taken[ROWS];
+static size_t order_entries, layout_places;
 static uint8_t written[TEXT];
 static char text[LONG_TEXT + 1];
 static size_t text_length, text_places;
@@ -37,6 +40,7 @@ static struct {
     struct tangle_free freed;
     struct tangle_run ran;
     struct tangle_better better;
+    struct tangle_take_in taken;
     struct tangle_unpack unpacked;
     struct tangle_newick_read read;
     struct tangle_newick_write wrote;
@@ -79,6 +83,16 @@ static void free_left(void) {
 static void free_right(void) {
     found.freed = tangle_free(s, BYTES, TANGLE_RIGHT);
     found.refusal = found.freed.refusal;
+}
+
+static void take_in_left(void) {
+    found.taken = tangle_take_in(s, BYTES, TANGLE_LEFT, first, order_entries, taken, layout_places);
+    found.refusal = found.taken.refusal;
+}
+
+static void take_in_right(void) {
+    found.taken = tangle_take_in(s, BYTES, TANGLE_RIGHT, first, order_entries, taken, layout_places);
+    found.refusal = found.taken.refusal;
 }
 
 static void run(void) {
@@ -158,6 +172,8 @@ static const struct {
     {"thousandths", thousandths, 0},
     {"free", free_left, TANGLE_LEFT},
     {"free", free_right, TANGLE_RIGHT},
+    {"take_in", take_in_left, TANGLE_LEFT},
+    {"take_in", take_in_right, TANGLE_RIGHT},
     {"run", run, 0},
     {"hands", hands, 0},
     {"pin", pin_left, TANGLE_LEFT},
@@ -211,11 +227,13 @@ static void restore(void) { memcpy(s, made, BYTES); }
 /* The stack of a call's work, which leaves its answer in `found`. */
 static size_t bytes_of(job_t *job) { return reach(restore, job) - reach(restore, no_job); }
 
-/* A side's present order, and the same backwards: two that are compatible. */
+/* A side's present order, and the same backwards: two that are compatible. With room for the layout of one. */
 static void propose(uint32_t side) {
     restore();
     tangle_order(s, BYTES, side, first, N);
     for (size_t i = 0; i < N; i++) second[i] = first[N - 1 - i];
+    order_entries = N;
+    layout_places = ROWS;
 }
 
 /* Whether the order found is 1 to n, or n to 1 if it falls. */
@@ -240,6 +258,12 @@ static int in_signs(uint32_t side) {
     int32_t expected[2 * ROWS];
     put_signs(expected, side == TANGLE_LEFT ? left : right, N);
     return memcmp(written_table, expected, sizeof expected) == 0;
+}
+
+/* Whether the bytes found for the side's present order are those of the record, and its count is the record's. */
+static int in_bytes(uint32_t side) {
+    const uint8_t *layout = made + 10 * N + (side == TANGLE_LEFT ? 0 : ROWS);
+    return memcmp(taken, layout, ROWS) == 0 && found.taken.count == found.count.count;
 }
 
 /* Whether the record, with the side's last row pinned, differs from the one made by that alone. */
@@ -290,6 +314,7 @@ static int measure(size_t on_left, size_t on_right, uint8_t layout) {
         int answered = found.refusal == 0;
         if (strcmp(calls[i].name, "order") == 0 && direction != 0 && layout < MIXED)
             answered &= in_order((direction < 0) != (layout == TURNED));
+        if (strcmp(calls[i].name, "take_in") == 0) answered &= in_bytes(calls[i].side);
         if (strcmp(calls[i].name, "pin") == 0) answered &= in_place(calls[i].side);
         if (strcmp(calls[i].name, "newick_write") == 0) answered &= in_words(calls[i].side);
         if (strcmp(calls[i].name, "merge_write") == 0) answered &= in_signs(calls[i].side);
@@ -314,6 +339,58 @@ static int measure_bad_row(uint32_t side) {
             fprintf(stderr, "%s: refusal %u for a bad row\n", calls[i].name, (unsigned)found.refusal);
             good = 0;
         }
+    }
+    return good;
+}
+
+static void free_it(void) {
+    restore();
+    found.freed = tangle_free(s, BYTES, TANGLE_LEFT);
+    tangle_order(s, BYTES, TANGLE_LEFT, first, N);
+}
+
+/* The leaf in the middle and the one at a place change places. */
+static void exchange(size_t place) {
+    uint16_t leaf = first[place];
+    first[place] = first[N / 2];
+    first[N / 2] = leaf;
+}
+
+static void exchange_top(void) { exchange(0); }
+static void exchange_bottom(void) { exchange(N - 1); }
+static void leaf_twice(void) { first[N - 1] = first[0]; }
+static void one_entry_less(void) { order_entries--; }
+static void turn_all(void) { memcpy(first, second, sizeof first); }
+static void one_place_less(void) { layout_places--; }
+
+/* What an order is: what is done to the present one of the left or to the room for its layout, and the refusal. */
+static const struct {
+    const char *name;
+    job_t *change;
+    uint32_t refusal;
+} order_kinds[] = {
+    {"freed", free_it, 0},
+    {"top", exchange_top, TANGLE_ORDER},
+    {"bottom", exchange_bottom, TANGLE_ORDER},
+    {"twice", leaf_twice, TANGLE_ORDER},
+    {"short", one_entry_less, TANGLE_ORDER},
+    {"against", turn_all, TANGLE_AGAINST_PIN},
+    {"no-room", one_place_less, TANGLE_ROOM},
+};
+
+/* Taking in orders of one shape, with pins: the one that freeing leaves, which is least, and bad ones. */
+static int measure_orders(size_t shape) {
+    int good = 1;
+    make(shapes[shape].rows, shapes[shape].rows, WITH_PINS);
+    for (size_t i = 0; i < sizeof order_kinds / sizeof *order_kinds; i++) {
+        propose(TANGLE_LEFT);
+        order_kinds[i].change();
+        size_t bytes = bytes_of(take_in_left);
+        printf("take_in %s %s - %zu\n", shapes[shape].name, order_kinds[i].name, bytes);
+        int answered = found.refusal == order_kinds[i].refusal;
+        if (found.refusal == 0) answered &= found.taken.least == 1 && found.taken.count == found.freed.after;
+        if (!answered) fprintf(stderr, "take_in, %s %s: another answer\n", shapes[shape].name, order_kinds[i].name);
+        good &= answered;
     }
     return good;
 }
@@ -410,6 +487,7 @@ int main(void) {
     for (size_t i = 0; i < 16; i++)
         for (uint8_t layout = AS_GIVEN; layout <= WITH_PINS; layout++) good &= measure(i / 4, i % 4, layout);
     good &= measure_bad_row(TANGLE_LEFT) & measure_bad_row(TANGLE_RIGHT);
+    for (size_t i = 0; i < 4; i++) good &= measure_orders(i);
     for (size_t i = 0; i < 3; i++) good &= measure_reading(i); /* all but the random one, whose depth is no limit */
     for (size_t i = 0; i < 4; i++) good &= measure_tables(i);
     return good ? 0 : 1;

@@ -1,4 +1,4 @@
-/* The comparison table's calls for C: all nineteen (crates/tangle, target/staticlib/libtangle.a, which `rt staticlib
+/* The comparison table's calls for C: all twenty (crates/tangle, target/staticlib/libtangle.a, which `rt staticlib
  * tangle` writes).
  *
  * Memory is lent for the length of a call, as a pointer and how many bytes, places or entries are there; any bytes and
@@ -11,7 +11,8 @@
  * or the right tree that breaks the tree rule, and 0 beside every other number. A refused call answers zero for every
  * number after these two and changes no byte. One that is not refused changes what is said with the call, and no other
  * byte. docs/CALLS.md explains the words used here, docs/RECORD.md the record's bytes, docs/NEWICK.md the texts,
- * docs/MERGE.md the merge tables, and docs/ENTANGLEMENT.md the two entanglements.
+ * docs/MERGE.md the merge tables, docs/ENTANGLEMENT.md the two entanglements, and docs/ORDERS.md where orders made
+ * elsewhere come from.
  *
  * Sides, rows, letters, n and allowances are 32 bits wide, and each is tested as it is: side 257, side 65,537 and row
  * 65,537 are refused, and so is n = 65,540.
@@ -31,30 +32,31 @@ extern "C" {
 /* Refusals; docs/CALLS.md says more of each. */
 enum tangle_number {
     TANGLE_ACCEPTED = 0,
-    TANGLE_SHORT = 1,      /* fewer than 8 bytes */
-    TANGLE_MARK = 2,       /* the mark isn't TGP */
-    TANGLE_VERSION = 3,    /* the version isn't 1 */
-    TANGLE_HOLD = 4,       /* the hold isn't one of the four letters N, L, R, B */
-    TANGLE_SIZE = 5,       /* n is 0 or above 512 */
-    TANGLE_LENGTH = 6,     /* the length isn't 12n-2; in packing, a list has the wrong length; a merge table must have
-                              n-1 pairs, and hasn't */
-    TANGLE_LEFT_ROW = 7,   /* a left row breaks the tree rule; the lowest that does is told beside it */
-    TANGLE_RIGHT_ROW = 8,  /* a right row breaks the tree rule; likewise */
-    TANGLE_LINKS = 9,      /* the links aren't one-to-one on 1 to n */
-    TANGLE_LAYOUT = 10,    /* a layout byte is above 3 */
-    TANGLE_HELD = 11,      /* the call frees a held side, runs while a side is held, or has a hand entry for a held
-                              side, even if no byte would end up different */
-    TANGLE_ALLOWANCE = 12, /* the allowance is 0 or above 130,818 */
-    TANGLE_SIDE = 13,      /* the side isn't 1 (left) or 2 (right) */
-    TANGLE_ROOM = 14,      /* an output buffer has too few places */
-    TANGLE_ROW = 15,       /* the row is 0 or above n-1 */
-    TANGLE_ORDER = 16,     /* a proposed order has fewer than n entries, or its first n aren't a compatible order */
-    TANGLE_HANDS = 17,     /* the hand list is longer than 1,024 */
-    TANGLE_GRAMMAR = 18,   /* a text breaks the grammar of docs/NEWICK.md */
-    TANGLE_LEAVES = 19,    /* a text's leaves aren't 1 to n once each, or n is above 512 */
-    TANGLE_ENTRY = 20,     /* an entry of a merge table is zero, or names no leaf, or no earlier row */
-    TANGLE_TWICE = 21,     /* an entry of a merge table is used twice */
-    TANGLE_PINNED = 22     /* a hand list names a pinned row */
+    TANGLE_SHORT = 1,       /* fewer than 8 bytes */
+    TANGLE_MARK = 2,        /* the mark isn't TGP */
+    TANGLE_VERSION = 3,     /* the version isn't 1 */
+    TANGLE_HOLD = 4,        /* the hold isn't one of the four letters N, L, R, B */
+    TANGLE_SIZE = 5,        /* n is 0 or above 512 */
+    TANGLE_LENGTH = 6,      /* the length isn't 12n-2; in packing, a list has the wrong length; a merge table must have
+                               n-1 pairs, and hasn't */
+    TANGLE_LEFT_ROW = 7,    /* a left row breaks the tree rule; the lowest that does is told beside it */
+    TANGLE_RIGHT_ROW = 8,   /* a right row breaks the tree rule; likewise */
+    TANGLE_LINKS = 9,       /* the links aren't one-to-one on 1 to n */
+    TANGLE_LAYOUT = 10,     /* a layout byte is above 3 */
+    TANGLE_HELD = 11,       /* the call frees a held side, runs while a side is held, or has a hand entry for a held
+                               side, even if no byte would end up different */
+    TANGLE_ALLOWANCE = 12,  /* the allowance is 0 or above 130,818 */
+    TANGLE_SIDE = 13,       /* the side isn't 1 (left) or 2 (right) */
+    TANGLE_ROOM = 14,       /* an output buffer has too few places */
+    TANGLE_ROW = 15,        /* the row is 0 or above n-1 */
+    TANGLE_ORDER = 16,      /* a proposed order has fewer than n entries, or its first n aren't a compatible order */
+    TANGLE_HANDS = 17,      /* the hand list is longer than 1,024 */
+    TANGLE_GRAMMAR = 18,    /* a text breaks the grammar of docs/NEWICK.md */
+    TANGLE_LEAVES = 19,     /* a text's leaves aren't 1 to n once each, or n is above 512 */
+    TANGLE_ENTRY = 20,      /* an entry of a merge table is zero, or names no leaf, or no earlier row */
+    TANGLE_TWICE = 21,      /* an entry of a merge table is used twice */
+    TANGLE_PINNED = 22,     /* a hand list names a pinned row */
+    TANGLE_AGAINST_PIN = 23 /* an order that is taken in would turn a pinned row otherwise than it is */
 };
 
 enum tangle_side { TANGLE_LEFT = 1, TANGLE_RIGHT = 2 };
@@ -128,6 +130,13 @@ struct tangle_better {
     uint32_t row;
     uint32_t which;  /* TANGLE_FIRST or TANGLE_SECOND */
     uint32_t length; /* n: the better order is the first n entries of that one */
+};
+
+struct tangle_take_in {
+    uint32_t refusal;
+    uint32_t row;
+    uint32_t count; /* with the order on its side; at most 130,816 */
+    uint32_t least; /* 1 if no permitted layout of that side crosses less, 0 if one does */
 };
 
 struct tangle_unpack {
@@ -220,7 +229,7 @@ struct tangle_run tangle_run(uint8_t *record, size_t length, uint32_t allowance)
  * Refused: 17, then 1 to 10, then by the first bad entry: 13, 15, 11 if its side is held, 22 if its row is pinned. */
 struct tangle_refusal tangle_hands(uint8_t *record, size_t length, const struct tangle_entry *list, size_t entries);
 
-/* ---- calls on two orders proposed for a side; they only read */
+/* ---- calls on orders proposed for a side; they only read the record and the orders */
 
 /* Which of the two crosses less against the other side's present order, the first on a tie. Of each order the first n
  * entries are looked at, and those beyond are not. Pins and a hold are no matter.
@@ -232,6 +241,18 @@ struct tangle_better tangle_better(const uint8_t *record, size_t length, uint32_
  * Refused: as there. */
 struct tangle_refusal tangle_better_check(const uint8_t *record, size_t length, uint32_t side, const uint16_t *first,
                                           size_t first_entries, const uint16_t *second, size_t second_entries);
+
+/* Takes in an order that was made elsewhere: writes the n-1 layout bytes of that side that give it to the first of the
+ * buffer's places, and nothing beyond them, and answers how many links cross with this order on that side, the other
+ * side's present order standing, and whether that is least. There is one layout that gives an order. A row that is
+ * pinned in the record comes back as 2 or 3, and any other as 0 or 1. Least: no layout of that side that turns the
+ * pinned rows as they are crosses less while the other side stands. Of the order the first n entries are looked at, and
+ * those beyond are not. Nothing is moved, so a hold is no matter. TANGLE_MOST_LEAVES - 1 places are enough for any
+ * record, and none are needed for a single leaf.
+ * Refused: 13, then 1 to 10, then 16, then 23 if a pinned row would have to be turned otherwise than it is, then 14 if
+ * there are fewer than n-1 places. */
+struct tangle_take_in tangle_take_in(const uint8_t *record, size_t length, uint32_t side, const uint16_t *order,
+                                     size_t entries, uint8_t *layout, size_t places);
 
 /* ---- calls between a record and its parts
  *

@@ -1,4 +1,4 @@
-/* Checks the nineteen calls for C against docs/CALLS.md, docs/NEWICK.md and docs/MERGE.md: their examples, every
+/* Checks the twenty calls for C against docs/CALLS.md, docs/NEWICK.md and docs/MERGE.md: their examples, every
  * refusal, in the order of tests, the row beside 7 and 8 and none beside another number, numbers wider than 8 and 16
  * bits, that a refused call changes no byte, and that none writes beyond what it was lent. Numbers are literals, the
  * customer's or worked out by hand. Prints each check that failed; ends with 0 only if none did.
@@ -13,6 +13,8 @@ _Static_assert(sizeof(struct tangle_count) == 12 && offsetof(struct tangle_count
 _Static_assert(sizeof(struct tangle_free) == 16 && offsetof(struct tangle_free, row) == 4, "four");
 _Static_assert(sizeof(struct tangle_run) == 24 && offsetof(struct tangle_run, row) == 4, "six");
 _Static_assert(sizeof(struct tangle_better) == 16 && offsetof(struct tangle_better, row) == 4, "four");
+_Static_assert(sizeof(struct tangle_take_in) == 16 && offsetof(struct tangle_take_in, row) == 4, "four");
+_Static_assert(offsetof(struct tangle_take_in, count) == 8 && offsetof(struct tangle_take_in, least) == 12, "in turn");
 _Static_assert(sizeof(struct tangle_unpack) == 16 && offsetof(struct tangle_unpack, row) == 4, "four");
 _Static_assert(sizeof(struct tangle_squared_entanglement) == 32, "five numbers, 4 bytes of padding, and a double");
 _Static_assert(offsetof(struct tangle_squared_entanglement, row) == 4, "the row is second");
@@ -33,6 +35,7 @@ _Static_assert(TANGLE_HELD == 11 && TANGLE_ALLOWANCE == 12 && TANGLE_SIDE == 13,
 _Static_assert(TANGLE_ROOM == 14 && TANGLE_ROW == 15 && TANGLE_ORDER == 16 && TANGLE_HANDS == 17, "docs/CALLS.md");
 _Static_assert(TANGLE_GRAMMAR == 18 && TANGLE_LEAVES == 19, "docs/CALLS.md");
 _Static_assert(TANGLE_ENTRY == 20 && TANGLE_TWICE == 21 && TANGLE_PINNED == 22, "docs/CALLS.md");
+_Static_assert(TANGLE_AGAINST_PIN == 23, "docs/CALLS.md");
 _Static_assert(TANGLE_LEFT == 1 && TANGLE_RIGHT == 2 && TANGLE_FIRST == 1 && TANGLE_SECOND == 2, "docs/CALLS.md");
 _Static_assert(TANGLE_HOLD_NONE == 78 && TANGLE_HOLD_LEFT == 76, "ASCII");
 _Static_assert(TANGLE_HOLD_RIGHT == 82 && TANGLE_HOLD_BOTH == 66, "ASCII");
@@ -532,6 +535,61 @@ static void write_refused(int line, uint32_t side, size_t lent, uint32_t refusal
     write_table(line, side, lent, refusal, NULL, 0);
 }
 
+/* ---- orders made elsewhere */
+
+static struct buffer made_elsewhere;
+
+/* Takes in an order of so many entries, which stand in `made_elsewhere`, with so many places for layout bytes: the
+ * refusal, the count, whether it is least, and these bytes, none where it is refused. The record and the order stay as
+ * they are. */
+static void take_in(int line, uint32_t side, size_t length, size_t lent, uint32_t refusal, uint32_t crossings,
+                    uint32_t least, const uint8_t *layout, size_t rows)
+{
+    static struct buffer out, before;
+    struct tangle_take_in a;
+
+    kept = r;
+    before = made_elsewhere;
+    clear(&out);
+    a = tangle_take_in(bytes(), r.length, side, places(&made_elsewhere), length, layout_places(&out), lent);
+    told(line, a.refusal, a.row, refusal);
+    check(line, "count", a.count, crossings);
+    check(line, "least", a.least, least);
+    contains(line, &out, layout, rows);
+    check(line, "an entry changed", memcmp(before.room, made_elsewhere.room, sizeof before.room) != 0, 0);
+    same_bytes(line, &kept);
+}
+
+/* An order written as digits; answers how many it has. */
+static size_t make(const char *digits)
+{
+    size_t length = strlen(digits);
+
+    clear(&made_elsewhere);
+    for (size_t i = 0; i < length; i++)
+        places(&made_elsewhere)[i] = (uint16_t)(digits[i] - '0');
+    return length;
+}
+
+/* An order that is taken in, with layout bytes as digits: with as many places as these, and with more. */
+static void taken(int line, uint32_t side, const char *digits, uint32_t crossings, uint32_t least, const char *layout)
+{
+    uint8_t expected[9];
+    size_t rows = strlen(layout);
+
+    for (size_t i = 0; i < rows; i++)
+        expected[i] = (uint8_t)(layout[i] - '0');
+    take_in(line, side, make(digits), rows, 0, crossings, least, expected, rows);
+    take_in(line, side, make(digits), rows + 1, 0, crossings, least, expected, rows);
+    take_in(line, side, make(digits), 2 * MOST_PLACES, 0, crossings, least, expected, rows);
+}
+
+/* One that is refused, with so many places. */
+static void not_taken(int line, uint32_t side, const char *digits, size_t lent, uint32_t refusal)
+{
+    take_in(line, side, make(digits), lent, refusal, 0, 0, NULL, 0);
+}
+
 /* A record that every call refuses by one number. */
 static void refused(int line, uint32_t number)
 {
@@ -547,6 +605,8 @@ static void refused(int line, uint32_t number)
     hands(line, 0, number);
     pin_refused(line, TANGLE_LEFT, 1, number);
     pin_refused(line, TANGLE_RIGHT, 0, number);
+    not_taken(line, TANGLE_LEFT, "4312", 3, number);
+    not_taken(line, TANGLE_RIGHT, "", 0, number);
     write_text(line, TANGLE_LEFT, MOST, number, "");
     write_text(line, TANGLE_RIGHT, 0, number, "");
     write_refused(line, TANGLE_LEFT, MOST_PLACES, number);
@@ -972,6 +1032,7 @@ static void longer_than_16_bits(void)
     static int32_t table[65536 + 6];
     uint16_t four[] = {4, 3, 1, 2};
     uint8_t text[14] = {0};
+    struct tangle_take_in t;
     int changed = 0;
 
     case2('N');
@@ -982,6 +1043,7 @@ static void longer_than_16_bits(void)
     check(__LINE__, "a pin's refusal", tangle_pin(s, sizeof s, TANGLE_LEFT, 1, 1).refusal, 6);
     check(__LINE__, "better's refusal", tangle_better(s, sizeof s, TANGLE_LEFT, four, 4, four, 4).refusal, 6);
     check(__LINE__, "its check's", tangle_better_check(s, sizeof s, TANGLE_LEFT, four, 4, four, 4).refusal, 6);
+    check(__LINE__, "taking in's", tangle_take_in(s, sizeof s, TANGLE_LEFT, four, 4, text, 14).refusal, 6);
     check(__LINE__, "count's refusal", tangle_count(s, sizeof s).refusal, 6);
     check(__LINE__, "pairs' refusal", tangle_pairs(s, sizeof s).refusal, 6);
     check(__LINE__, "freeing's refusal", tangle_free(s, sizeof s, TANGLE_LEFT).refusal, 6);
@@ -1010,6 +1072,14 @@ static void longer_than_16_bits(void)
     check(__LINE__, "refusal", tangle_merge_read(4, table, 6, rows, 65536 + 1).refusal, 0);
     check(__LINE__, "the rows differ", memcmp(rows, balanced, sizeof balanced) != 0 || rows[6] != 0, 0);
     check(__LINE__, "a table's refusal", tangle_merge_read(4, table, 65536 + 6, rows, 6).refusal, 6);
+
+    /* and an order with layout bytes */
+    memcpy(rows, identity, sizeof identity);
+    t = tangle_take_in(bytes(), r.length, TANGLE_LEFT, rows, 65536 + 1, s, 65536 + 1);
+    check(__LINE__, "refusal", t.refusal, 0);
+    check(__LINE__, "count", t.count, 0);
+    check(__LINE__, "least", t.least, 1);
+    check(__LINE__, "the bytes differ", memcmp(s, "\0\1\1(3,(1", 8) != 0, 0); /* beyond them the text */
 }
 
 static void arguments_refused(void)
@@ -1373,6 +1443,198 @@ static void pins_freed(void)
     run(__LINE__, 2, 0, 130816, 130816, 2, 1);
     run(__LINE__, TANGLE_MOST_TURNS, 0, 130816, 130816, 2, 1);
     same_bytes(__LINE__, &all);
+}
+
+/* ---- orders taken in */
+
+/* Every order of case 2's left and some of its right, whatever is held; and the tie of example 5. */
+static void orders_taken_in(void)
+{
+    static const char holds[] = {'N', 'L', 'R', 'B'};
+
+    for (size_t i = 0; i < sizeof holds; i++) {
+        case2(holds[i]);
+        taken(__LINE__, TANGLE_LEFT, "4312", 5, 0, "000");
+        taken(__LINE__, TANGLE_LEFT, "4321", 6, 0, "100");
+        taken(__LINE__, TANGLE_LEFT, "4123", 3, 0, "010");
+        taken(__LINE__, TANGLE_LEFT, "4213", 4, 0, "110");
+        taken(__LINE__, TANGLE_LEFT, "3124", 2, 0, "001");
+        taken(__LINE__, TANGLE_LEFT, "3214", 3, 0, "101");
+        taken(__LINE__, TANGLE_LEFT, "1234", 0, 1, "011");
+        taken(__LINE__, TANGLE_LEFT, "2134", 1, 0, "111");
+        taken(__LINE__, TANGLE_RIGHT, "1234", 5, 0, "000");
+        taken(__LINE__, TANGLE_RIGHT, "3412", 1, 0, "001");
+        taken(__LINE__, TANGLE_RIGHT, "4312", 0, 1, "011");
+        taken(__LINE__, TANGLE_LEFT, "12340", 0, 1, "011"); /* entries beyond n */
+        taken(__LINE__, TANGLE_RIGHT, "43129431", 0, 1, "011");
+    }
+
+    example5();
+    taken(__LINE__, TANGLE_LEFT, "123", 1, 1, "00");
+    taken(__LINE__, TANGLE_LEFT, "312", 1, 1, "01");
+    taken(__LINE__, TANGLE_LEFT, "213", 2, 0, "10");
+    taken(__LINE__, TANGLE_LEFT, "321", 2, 0, "11");
+    taken(__LINE__, TANGLE_RIGHT, "132", 1, 1, "00");
+    taken(__LINE__, TANGLE_RIGHT, "213", 1, 1, "01");
+    taken(__LINE__, TANGLE_RIGHT, "312", 2, 0, "10");
+    taken(__LINE__, TANGLE_RIGHT, "231", 2, 0, "11");
+    hand(__LINE__, TANGLE_RIGHT, 2, 0); /* with another right order standing, another left one is least */
+    taken(__LINE__, TANGLE_LEFT, "213", 0, 1, "10");
+    taken(__LINE__, TANGLE_LEFT, "123", 1, 0, "00");
+}
+
+/* A single leaf, two leaves whose links cross, and 512 of them, whose row i has i crossings of its own. */
+static void smallest_and_largest_order(void)
+{
+    static const uint16_t pair[] = {1, 2}, crossed[] = {2, 1};
+    static uint8_t layout[511];
+
+    record('B', 1, NULL, NULL, identity);
+    taken(__LINE__, TANGLE_LEFT, "1", 0, 1, "");
+    taken(__LINE__, TANGLE_RIGHT, "19", 0, 1, "");
+    not_taken(__LINE__, TANGLE_LEFT, "", 0, 16);
+    not_taken(__LINE__, TANGLE_RIGHT, "0", 0, 16);
+    not_taken(__LINE__, TANGLE_LEFT, "2", 9, 16);
+    record('N', 2, pair, pair, crossed);
+    taken(__LINE__, TANGLE_LEFT, "12", 1, 0, "0");
+    taken(__LINE__, TANGLE_RIGHT, "21", 0, 1, "1");
+    not_taken(__LINE__, TANGLE_RIGHT, "21", 0, 14);
+
+    deep(512, 1);
+    clear(&made_elsewhere);
+    for (uint16_t i = 0; i < 513; i++)
+        places(&made_elsewhere)[i] = (uint16_t)(i + 1);
+    take_in(__LINE__, TANGLE_LEFT, 512, 511, 0, 130816, 0, layout, 511);
+    take_in(__LINE__, TANGLE_RIGHT, 513, 512, 0, 130816, 0, layout, 511);
+    take_in(__LINE__, TANGLE_LEFT, 511, 511, 16, 0, 0, NULL, 0);
+    take_in(__LINE__, TANGLE_LEFT, 512, 510, 14, 0, 0, NULL, 0);
+    for (uint16_t i = 0; i < 512; i++)
+        places(&made_elsewhere)[i] = (uint16_t)(512 - i);
+    memset(layout, 1, 511);
+    take_in(__LINE__, TANGLE_LEFT, 512, 511, 0, 0, 1, layout, 511);
+    pin(__LINE__, TANGLE_LEFT, 511, 1, 2); /* the root keeps leaf 512 last */
+    take_in(__LINE__, TANGLE_LEFT, 512, 511, 23, 0, 0, NULL, 0);
+    take_in(__LINE__, TANGLE_RIGHT, 512, 511, 0, 0, 1, layout, 511);
+    for (uint16_t i = 0; i < 512; i++)
+        places(&made_elsewhere)[i] = (uint16_t)(i < 511 ? 511 - i : 512);
+    layout[510] = 2;
+    take_in(__LINE__, TANGLE_LEFT, 512, 511, 0, 511, 1, layout, 511);
+    pin(__LINE__, TANGLE_LEFT, 1, 1, 2); /* and leaf 1 before leaf 2 */
+    take_in(__LINE__, TANGLE_LEFT, 512, 511, 23, 0, 0, NULL, 0);
+    places(&made_elsewhere)[509] = 1;
+    places(&made_elsewhere)[510] = 2;
+    layout[0] = 2;
+    take_in(__LINE__, TANGLE_LEFT, 512, 511, 0, 512, 1, layout, 511);
+}
+
+/* Pinned rows come back pinned, and what is least is so among the choices that agree with them. */
+static void orders_with_pins(void)
+{
+    laid('N', "002000"); /* example 3 with its left root pinned, as given and turned over */
+    taken(__LINE__, TANGLE_LEFT, "4123", 3, 1, "012");
+    taken(__LINE__, TANGLE_LEFT, "4312", 5, 0, "002");
+    taken(__LINE__, TANGLE_LEFT, "4213", 4, 0, "112");
+    not_taken(__LINE__, TANGLE_LEFT, "1234", 3, 23);
+    not_taken(__LINE__, TANGLE_LEFT, "3124", 3, 23);
+    taken(__LINE__, TANGLE_RIGHT, "4312", 0, 1, "011");
+    laid('L', "003000");
+    taken(__LINE__, TANGLE_LEFT, "1234", 0, 1, "013");
+    not_taken(__LINE__, TANGLE_LEFT, "4312", 3, 23);
+    laid('N', "321000");
+    taken(__LINE__, TANGLE_LEFT, "3214", 3, 1, "321");
+    taken(__LINE__, TANGLE_LEFT, "4321", 6, 0, "320");
+    not_taken(__LINE__, TANGLE_LEFT, "3124", 3, 23);
+    not_taken(__LINE__, TANGLE_LEFT, "2134", 3, 23);
+    laid('R', "000222"); /* the other side's pins are no matter */
+    taken(__LINE__, TANGLE_LEFT, "1234", 0, 1, "011");
+    laid('B', "222233"); /* all pinned: one order is left, and is least; one row turned otherwise */
+    taken(__LINE__, TANGLE_LEFT, "4312", 0, 1, "222");
+    not_taken(__LINE__, TANGLE_LEFT, "4321", 3, 23);
+    not_taken(__LINE__, TANGLE_LEFT, "4123", 3, 23);
+    not_taken(__LINE__, TANGLE_LEFT, "3124", 3, 23);
+    taken(__LINE__, TANGLE_RIGHT, "4312", 0, 1, "233");
+    not_taken(__LINE__, TANGLE_RIGHT, "4321", 3, 23);
+    not_taken(__LINE__, TANGLE_RIGHT, "3412", 3, 23);
+    not_taken(__LINE__, TANGLE_RIGHT, "1243", 3, 23);
+}
+
+/* The side, the record, the order, the pins, the room; never 11, never 22. */
+static void orders_not_taken_in(void)
+{
+    static const uint32_t no_side[] = {0, 3, 256, 257, 258, 65535, 65537, 65538, 0x80000002, UINT32_MAX};
+    static const uint16_t no_leaf[] = {0, 5, 257, 260, 32769, 65535};
+    static const char *const none[] = {"", "4", "431", "1324", "4132", "1243", "4311", "4444", "43121"};
+
+    laid('B', "002000");
+    for (size_t i = 0; i + 1 < sizeof none / sizeof *none; i++) {
+        not_taken(__LINE__, TANGLE_LEFT, none[i], 3, 16);
+        not_taken(__LINE__, TANGLE_LEFT, none[i], 0, 16);
+    }
+    taken(__LINE__, TANGLE_LEFT, "43121", 5, 0, "002");
+    for (size_t i = 0; i < sizeof no_leaf / sizeof *no_leaf; i++)
+        for (size_t at = 0; at < 4; at++) {
+            make("4312");
+            places(&made_elsewhere)[at] = no_leaf[i];
+            take_in(__LINE__, TANGLE_LEFT, 4, 3, 16, 0, 0, NULL, 0);
+        }
+    for (size_t i = 0; i < sizeof no_side / sizeof *no_side; i++) {
+        not_taken(__LINE__, no_side[i], "4312", 3, 13);
+        not_taken(__LINE__, no_side[i], "", 0, 13);
+    }
+    not_taken(__LINE__, TANGLE_LEFT, "4312", 2, 14);
+    not_taken(__LINE__, TANGLE_RIGHT, "4312", 0, 14);
+    not_taken(__LINE__, TANGLE_LEFT, "1234", 2, 23);
+    not_taken(__LINE__, TANGLE_LEFT, "1234", 0, 23);
+    bytes()[45] = 4;
+    not_taken(__LINE__, 3, "1324", 0, 13);
+    not_taken(__LINE__, TANGLE_LEFT, "1324", 0, 10);
+    not_taken(__LINE__, TANGLE_LEFT, "1234", 2, 10);
+    set_upper(TANGLE_RIGHT, 2, 0);
+    bad_row = 2;
+    not_taken(__LINE__, 0, "", 0, 13);
+    not_taken(__LINE__, TANGLE_LEFT, "", 0, 8);
+    set_upper(TANGLE_LEFT, 3, 0);
+    bad_row = 3;
+    not_taken(__LINE__, TANGLE_RIGHT, "4312", 3, 7);
+    r.length = 7;
+    not_taken(__LINE__, TANGLE_RIGHT, "4312", 3, 1);
+    not_taken(__LINE__, 65537, "4312", 3, 13);
+}
+
+/* The present order gives the present bytes; the order that freeing leaves is least, before the freeing and after. */
+static void orders_left_by_freeing(void)
+{
+    static const uint16_t leaves[] = {1, 2, 3, 4, 63, 64, 65, 255, 256, 257, 511, 512};
+    static uint8_t layout[511];
+    static struct record before;
+
+    for (size_t i = 0; i < sizeof leaves / sizeof *leaves; i++)
+        for (uint32_t side = TANGLE_LEFT; side <= TANGLE_RIGHT; side++) {
+            size_t n = leaves[i];
+            uint16_t *order = places(&made_elsewhere);
+            struct tangle_free f;
+            uint32_t crossings;
+
+            deep(leaves[i], i % 2 == 0);
+            for (size_t row = 1; row < n; row++) {
+                *layout_byte(&r, TANGLE_LEFT, row) = row % 7 % 4;
+                *layout_byte(&r, TANGLE_RIGHT, row) = row % 5 % 4;
+            }
+            crossings = tangle_count(bytes(), r.length).count;
+            before = r;
+            clear(&made_elsewhere);
+            check(__LINE__, "refusal", tangle_order(bytes(), r.length, side, order, n).refusal, 0);
+            f = tangle_free(bytes(), r.length, side);
+            check(__LINE__, "refusal", f.refusal, 0);
+            check(__LINE__, "before", f.before, crossings);
+            memcpy(layout, layout_byte(&before, side, 1), n - 1);
+            take_in(__LINE__, side, n, n - 1, 0, crossings, f.after == crossings, layout, n - 1);
+            memcpy(layout, layout_byte(&r, side, 1), n - 1);
+            check(__LINE__, "refusal", tangle_order(bytes(), r.length, side, order, n).refusal, 0);
+            take_in(__LINE__, side, n, n - 1, 0, f.after, 1, layout, n - 1);
+            r = before;
+            take_in(__LINE__, side, n, n - 1, 0, f.after, 1, layout, n - 1);
+        }
 }
 
 /* ---- packing and unpacking */
@@ -1911,6 +2173,7 @@ static void wide_numbers(void)
         order(__LINE__, no_left[i], 4, 13, "");
         free_side(__LINE__, no_left[i], 13, 0, 0);
         better(__LINE__, no_left[i], "4312", "1234", 13, 0);
+        not_taken(__LINE__, no_left[i], "4312", 3, 13);
     }
     for (size_t i = 0; i < 3; i++) {
         write_text(__LINE__, no_right[i], MOST, 13, "");
@@ -1918,6 +2181,7 @@ static void wide_numbers(void)
         order(__LINE__, no_right[i], 4, 13, "");
         free_side(__LINE__, no_right[i], 13, 0, 0);
         better(__LINE__, no_right[i], "4312", "1234", 13, 0);
+        not_taken(__LINE__, no_right[i], "1234", 3, 13);
     }
     unpack(4, 0);
     for (size_t i = 0; i < 5; i++) {
@@ -1952,6 +2216,11 @@ int main(void)
     pins_shown();
     pins_by_hand();
     pins_freed();
+    orders_taken_in();
+    smallest_and_largest_order();
+    orders_with_pins();
+    orders_not_taken_in();
+    orders_left_by_freeing();
     parts_of_case2();
     parts_refused();
     texts_read();

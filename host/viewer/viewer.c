@@ -46,6 +46,7 @@ static const char *words(uint32_t refusal)
     case TANGLE_ENTRY: return "an entry of a merge table is zero, or names no leaf, or no earlier row";
     case TANGLE_TWICE: return "an entry of a merge table is used twice";
     case TANGLE_PINNED: return "a hand list names a pinned row";
+    case TANGLE_AGAINST_PIN: return "an order goes against a pinned row";
     default: return "a refusal without words";
     }
 }

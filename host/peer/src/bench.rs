@@ -8,6 +8,7 @@ use crate::pins;
 use crate::record::{self, Side};
 use crate::refusals::told;
 use crate::sheet;
+use crate::take_in::{self, TakenIn};
 
 const MOST_TURNS: u32 = 130_818;
 
@@ -243,6 +244,58 @@ fn example_8_pinned() {
     assert_eq!(run(&mut bytes, MOST_TURNS), (1, 0, 3, true));
     let record = record::read(&bytes).unwrap();
     assert_eq!([Side::Left, Side::Right].map(|side| record.layout(side)[0]), [2, 1]);
+}
+
+/// What taking an order in tells: the refusal, the count and whether it is least, and the bytes.
+fn taken_in(made: &Made, side: u16, order: &[u16]) -> (String, u32, bool, Vec<u8>) {
+    let mut layout = vec![9; made.n as usize - 1];
+    let result = take_in::take_in(&made.bytes(), side, order, &mut layout);
+    let TakenIn { count, least } = result.unwrap_or(TakenIn { count: 0, least: false });
+    (told(&result), count, least, layout)
+}
+
+#[test]
+fn example_3_taken_in() {
+    let mut record = case_2();
+    let zero = "0".to_string();
+    assert_eq!(taken_in(&record, 1, &[4, 3, 1, 2]), (zero.clone(), 5, false, vec![0, 0, 0]));
+    assert_eq!(taken_in(&record, 1, &[1, 2, 3, 4]), (zero.clone(), 0, true, vec![0, 1, 1]));
+    assert_eq!(taken_in(&record, 1, &[1, 3, 2, 4]), ("16".to_string(), 0, false, vec![9; 3]));
+    record.left_layout = vec![0, 0, 2];
+    assert_eq!(taken_in(&record, 1, &[1, 2, 3, 4]), ("23".to_string(), 0, false, vec![9; 3]));
+    assert_eq!(taken_in(&record, 1, &[4, 1, 2, 3]), (zero.clone(), 3, true, vec![0, 1, 2]));
+    assert_eq!(taken_in(&record, 1, &[4, 2, 1, 3]), (zero, 4, false, vec![1, 1, 2]));
+}
+
+/// Both of the left's orders with 1 crossing are least while the right stands, though 2 1 3 on both sides
+/// crosses nothing; with the right so, 2 1 3 is least.
+#[test]
+fn example_5_taken_in() {
+    let mut record = example_5();
+    let taken = |record: &Made, order: &[u16]| {
+        let (number, count, least, layout) = taken_in(record, 1, order);
+        assert_eq!(number, "0");
+        (count, least, layout)
+    };
+    assert_eq!(taken(&record, &[1, 2, 3]), (1, true, vec![0, 0]));
+    assert_eq!(taken(&record, &[3, 1, 2]), (1, true, vec![0, 1]));
+    assert_eq!(taken(&record, &[2, 1, 3]), (2, false, vec![1, 0]));
+    record.right_layout = vec![0, 1];
+    assert_eq!(taken(&record, &[2, 1, 3]), (0, true, vec![1, 0]));
+    assert_eq!(taken(&record, &[1, 2, 3]), (1, false, vec![0, 0]));
+}
+
+#[test]
+fn examples_7_8_and_13_taken_in() {
+    let zero = "0".to_string();
+    assert_eq!(taken_in(&example(&[], &[]), 2, &[1]), (zero.clone(), 0, true, vec![]));
+    let mut crossed = example(&[1, 2], &[1, 2]);
+    crossed.links = vec![2, 1];
+    assert_eq!(taken_in(&crossed, 1, &[1, 2]), (zero.clone(), 1, false, vec![0]));
+    assert_eq!(taken_in(&crossed, 1, &[2, 1]), (zero.clone(), 0, true, vec![1]));
+    let (up, down): (Vec<u16>, Vec<u16>) = ((1..=512).collect(), (1..=512).rev().collect());
+    assert_eq!(taken_in(&backwards(), 1, &up), (zero.clone(), 130_816, false, vec![0; 511]));
+    assert_eq!(taken_in(&backwards(), 1, &down), (zero, 0, true, vec![1; 511]));
 }
 
 #[test]

@@ -11,6 +11,7 @@ use crate::faults;
 use crate::lines;
 use crate::made::{self, Made};
 use crate::malformed;
+use crate::orders;
 use crate::random::Random;
 use crate::spelling;
 use crate::tables;
@@ -55,7 +56,7 @@ fn any_size(random: &mut Random) -> usize {
 fn any_call(random: &mut Random) -> String {
     let made = made::any_record(any_size(random), random);
     let record = faults::any_bytes(&made, random);
-    match random.below(142) {
+    match random.below(156) {
         0..=4 => lines::plain("check", &record),
         5..=13 => {
             let side = any_side(random);
@@ -77,6 +78,7 @@ fn any_call(random: &mut Random) -> String {
         111..=117 => any_merge_read(&made, random),
         118..=121 => any_merge_write(&made, &record, random),
         122..=133 => any_pin(&made, &record, random),
+        134..=147 => any_take_in(&made, &record, random),
         _ => any_thousandths(&made, &record, random),
     }
 }
@@ -378,6 +380,37 @@ fn any_pin(made: &Made, record: &[u8], random: &mut Random) -> String {
     lines::pin(record, side, row, text(flag, random))
 }
 
+/// An order to be taken in: the present one, the freed one, any that is compatible or permitted, the present
+/// one with a pinned row turned otherwise, one that is nearly compatible, or none at all.
+pub fn any_order_made_elsewhere(made: &Made, side: u16, random: &mut Random) -> Vec<u16> {
+    let n = made.n as usize;
+    let pinned = orders::pinned_rows(made, side);
+    match random.below(100) {
+        0..=9 => made.present_order(side),
+        10..=29 => orders::freed(made, side),
+        30..=44 => orders::compatible(made, side, random),
+        45..=64 => orders::permitted(made, side, random),
+        65..=74 if !pinned.is_empty() => orders::turned(made, side, random.pick(&pinned)),
+        65..=79 => {
+            let order = orders::permitted(made, side, random);
+            orders::exchanged(order, random.below(n), random.below(n))
+        }
+        80..=94 => any_order(made, side, random),
+        _ => any_buffer(n, random),
+    }
+}
+
+fn any_take_in(made: &Made, record: &[u8], random: &mut Random) -> String {
+    let side = 1 + random.below(2) as u16;
+    let mut order = any_order_made_elsewhere(made, side, random);
+    if random.chance(80) {
+        order.extend(rubbish(1 + random.below(9), random));
+    }
+    let named = if random.chance(930) { side.to_string() } else { any_side(random) };
+    let places = any_places(made.n as usize - 1, random);
+    lines::take_in(record, named, &order, &rubbish_bytes(places, random))
+}
+
 /// Thousandths of a record as it is, or with the least displacement for some k or the one below that.
 fn any_thousandths(made: &Made, record: &[u8], random: &mut Random) -> String {
     let n = made.n as usize;
@@ -437,5 +470,28 @@ mod tests {
             }
         }
         assert!(pinned > 60 && by_hand > 30 && pin > 150, "{pinned} {by_hand} {pin}");
+    }
+
+    #[test]
+    fn random_orders_are_taken_in_and_refused_in_every_way() {
+        let mut random = Random::new(75);
+        let mut seen = std::collections::BTreeMap::new();
+        for _ in 0..12_000 {
+            let line = any_line(&mut random);
+            if let Some(Call::TakeIn(..)) = desk::call(&line) {
+                let answer = desk::answer(&line);
+                let words: Vec<&str> = answer.split(' ').collect();
+                let key = if words[0] == "0" { format!("0 {}", words[2]) } else { words[0].to_string() };
+                *seen.entry(key).or_insert(0) += 1;
+            }
+        }
+        let enough = |key: &str, times: i32| assert!(seen.get(key) > Some(&times), "{key} {seen:?}");
+        enough("0 0", 100);
+        enough("0 1", 150);
+        enough("16", 70);
+        enough("23", 30);
+        enough("14", 40);
+        (1..=10).for_each(|number| enough(&number.to_string(), 0));
+        assert!(!seen.contains_key("11") && !seen.contains_key("22"));
     }
 }

@@ -8,6 +8,7 @@ use crate::newick;
 use crate::pins;
 use crate::record::{self, Buffers, Parts};
 use crate::refusals::{told, Refusal};
+use crate::take_in;
 
 pub const MOST_BYTES: usize = 1_048_576;
 
@@ -26,6 +27,7 @@ pub enum Call {
     BetterCheck(Vec<u8>, u16, Vec<u16>, Vec<u16>),
     Hold(Vec<u8>, u8),
     Pin(Vec<u8>, u16, u16, bool),
+    TakeIn(Vec<u8>, u16, Vec<u16>, Vec<u8>),
     Pack(u8, u16, [Vec<u16>; 3], [Vec<u8>; 2], Vec<u8>),
     Unpack(Vec<u8>, [Vec<u16>; 3], [Vec<u8>; 2]),
     NewickRead(Vec<u8>, Vec<u16>),
@@ -139,6 +141,7 @@ pub fn call(line: &[u8]) -> Option<Call> {
         (b"better_check", &[a, s, x, y]) => Call::BetterCheck(bytes(a)?, short(s)?, list(x)?, list(y)?),
         (b"hold", &[a, h]) => Call::Hold(bytes(a)?, letter(h)?),
         (b"pin", &[a, s, r, f]) => Call::Pin(bytes(a)?, short(s)?, short(r)?, flag(f)?),
+        (b"take_in", &[a, s, o, l]) => Call::TakeIn(bytes(a)?, short(s)?, list(o)?, bytes(l)?),
         (b"pack", &[h, n, l, r, p, x, y, o]) => {
             let numbers = [list(l)?, list(r)?, list(p)?];
             Call::Pack(letter(h)?, short(n)?, numbers, [bytes(x)?, bytes(y)?], bytes(o)?)
@@ -227,6 +230,12 @@ fn pin_answer(mut record: Vec<u8>, side: u16, row: u16, pinned: bool) -> String 
     format!("{} {}", told(&result), hex(&record))
 }
 
+fn take_in_answer(record: &[u8], side: u16, order: &[u16], mut layout: Vec<u8>) -> String {
+    let result = take_in::take_in(record, side, order, &mut layout);
+    let (count, least) = result.map_or((0, false), |taken| (taken.count, taken.least));
+    format!("{} {count} {} {}", told(&result), least as u8, hex(&layout))
+}
+
 fn pack_answer(hold: u8, n: u16, numbers: [Vec<u16>; 3], layouts: [Vec<u8>; 2], mut out: Vec<u8>) -> String {
     let parts = Parts {
         left: &numbers[0],
@@ -289,6 +298,7 @@ pub fn answer(line: &[u8]) -> String {
         Call::BetterCheck(record, side, x, y) => told(&firmware::better_check(&record, side, &x, &y)),
         Call::Hold(record, letter) => hold_answer(record, letter),
         Call::Pin(record, side, row, pinned) => pin_answer(record, side, row, pinned),
+        Call::TakeIn(record, side, order, layout) => take_in_answer(&record, side, &order, layout),
         Call::Pack(hold, n, numbers, layouts, out) => pack_answer(hold, n, numbers, layouts, out),
         Call::Unpack(record, numbers, layouts) => unpack_answer(&record, numbers, layouts),
         Call::NewickRead(text, out) => newick_read_answer(&text, out),
@@ -443,6 +453,7 @@ mod tests {
             ("better_check R 1 1,2,3,4 1,2,3,4", "7 3"),
             ("hold R 78", "7 3 R"),
             ("pin R 1 0 1", "7 3 R"),
+            ("take_in R 2 - 09ff", "7 3 0 0 09ff"),
             ("pack 78 4 1,2,3,5,4,3 0,2,3,4,5,6 1,2,3,4 000000 000000 00", "7 3 00"),
             ("pack 78 4 1,2,3,5,4,6 0,2,3,4,5,6 1,2,3,4 000000 000000 00", "8 1 00"),
             ("unpack R 6,6 - 0 00 -", "7 3 0 0 6,6 - 0 00 -"),
@@ -463,7 +474,7 @@ mod tests {
             Call::Hands(..) | Call::Hold(..) | Call::Pin(..) | Call::Pack(..) => Some(2),
             Call::MergeRead(..) | Call::MergeWrite(..) => Some(2),
             Call::NewickRead(..) | Call::NewickWrite(..) => Some(3),
-            Call::SquaredEntanglement(..) | Call::Free(..) => Some(4),
+            Call::SquaredEntanglement(..) | Call::Free(..) | Call::TakeIn(..) => Some(4),
             Call::Run(..) => Some(6),
             Call::Better(..) => None,
             Call::Unpack(..) => Some(8),

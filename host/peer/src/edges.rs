@@ -16,19 +16,22 @@ use crate::newick_edges;
 use crate::pin_edges;
 use crate::random::Random;
 use crate::ratio_edges;
-use crate::sides;
+use crate::take_in_edges;
 
-const SIDES: [u16; 10] = [0, 1, 2, 3, 256, 257, 258, 512, 32769, 65535];
+const NEAR: [u16; 4] = [0, 1, 2, 3];
+const FAR: [u16; 6] = [256, 257, 258, 512, 32769, 65535];
 #[rustfmt::skip]
 const ALLOWANCES: [u64; 17] = [
     0, 1, 2, 3, 4, 65_536, 65_537, 130_817, 130_818, 130_819, 131_072, 196_354, 1 << 31,
     4_294_967_295, 4_294_967_296, 4_294_967_297, 4_295_098_114,
 ];
 const HOLDS: [u8; 4] = [b'N', b'L', b'R', b'B'];
+const HELD: [u8; 3] = [b'L', b'R', b'B'];
 
 /// All fixed lines.
 pub fn all() -> Vec<String> {
     let mut all = pin_edges::largest();
+    all.extend(take_in_edges::largest());
     all.extend(examples());
     all.extend(rows_that_break_the_rule());
     all.extend(links_that_are_not_one_to_one());
@@ -43,6 +46,7 @@ pub fn all() -> Vec<String> {
     all.extend(packing_several_faults());
     all.extend(unpacking());
     all.extend(pin_edges::all());
+    all.extend(take_in_edges::all());
     all.extend(newick_edges::all());
     all.extend(merge_edges::all());
     all.extend(sizes());
@@ -55,13 +59,23 @@ pub fn all() -> Vec<String> {
 }
 
 /// What says again what stands before it: faulty records under the calls that were left out there, every
-/// other letter for the hold, and faulty records with sides that are far off.
+/// other letter for the hold, two proposed orders that are both bad, sides that are far off on records that
+/// are held or faulty, and more of what is pinned and taken in.
 fn again() -> Vec<String> {
-    let mut calls = faults_under_calls(|at, call| !comes_first(at, call));
+    let mut calls = take_in_edges::again();
+    calls.extend(pin_edges::again());
+    calls.extend(faults_under_calls(|at, call| !comes_first(at, call)));
+    for record in faults::others_of_several(0) {
+        calls.push(lines::plain("thousandths", &record));
+        calls.push(lines::run(&record, 9));
+    }
+    calls.extend(two_orders(|one, two| !pair_comes_first(one, two)));
+    calls.extend(HELD.map(|hold| FAR.map(|side| with_a_side(hold, side)).concat()).concat());
+    calls.extend(faults::one_of_each().iter().flat_map(|record| sides_of_a_bad_record(record, &[65535])));
     let letters = (0..=256).filter(|letter| !LETTERS.contains(letter));
     calls.extend(letters.map(|letter| lines::hold(&one_leaf().bytes(), letter)));
-    calls.extend(sides::far_off(|record, side| lines::newick_write(record, side, &[])));
-    calls.extend(sides::far_off(|record, side| lines::merge_write(record, side, &[])));
+    calls.extend(newick_edges::again());
+    calls.extend(merge_edges::again());
     calls
 }
 
@@ -178,16 +192,22 @@ fn turns_and_sides() -> Vec<String> {
         }
     }
     for hold in HOLDS {
-        let held = with_hold(case_2(), hold);
-        let order = held.present_order(1);
-        for side in SIDES {
-            calls.push(lines::order(&held.bytes(), side, &[7, 7, 7, 7]));
-            calls.push(lines::free(&held.bytes(), side));
-            calls.push(lines::better("better", &held.bytes(), side, &order, &order));
-            calls.push(lines::better("better_check", &held.bytes(), side, &order, &order));
-        }
+        calls.extend(NEAR.map(|side| with_a_side(hold, side)).concat());
     }
+    calls.extend(FAR.map(|side| with_a_side(b'N', side)).concat());
     calls
+}
+
+/// Four calls with this side on case 2 under a hold.
+fn with_a_side(hold: u8, side: u16) -> Vec<String> {
+    let held = with_hold(case_2(), hold);
+    let order = held.present_order(1);
+    vec![
+        lines::order(&held.bytes(), side, &[7, 7, 7, 7]),
+        lines::free(&held.bytes(), side),
+        lines::better("better", &held.bytes(), side, &order, &order),
+        lines::better("better_check", &held.bytes(), side, &order, &order),
+    ]
 }
 
 /// Buffers for an order: too short, exact, longer; none is written where one is too short.
@@ -267,7 +287,8 @@ fn long_hand_lists() -> Vec<String> {
     calls
 }
 
-/// Orders for the left of case 2; the second and third cross equally often.
+/// Orders for the left of case 2; the second and third cross equally often, and the first seven are
+/// compatible.
 const PROPOSED: [&[u16]; 15] = [
     &[4, 3, 1, 2],
     &[3, 2, 1, 4],
@@ -286,15 +307,32 @@ const PROPOSED: [&[u16]; 15] = [
     &[1, 2, 3, 65535, 4],
 ];
 
+/// Any two of these for the left of case 2, where the numbers of both, from 0, are wanted.
+fn two_orders(wanted: impl Fn(usize, usize) -> bool) -> Vec<String> {
+    let record = case_2().bytes();
+    let mut calls = Vec::new();
+    for (one, first) in PROPOSED.iter().enumerate() {
+        for (_, second) in PROPOSED.iter().enumerate().filter(|&(two, _)| wanted(one, two)) {
+            calls.push(lines::better("better", &record, 1, first, second));
+        }
+    }
+    calls
+}
+
+/// Which of these come first: any two that are compatible, and each of the others beside one that is, as
+/// the first or the second, and beside itself.
+fn pair_comes_first(one: usize, two: usize) -> bool {
+    (one < 7 && two < 7) || one == 0 || two == 0 || one == two
+}
+
 /// Proposed orders: compatible, ties, short, longer, with entries that are no leaves. The check tells
 /// whether one of two is bad, not which: there each stands beside a good one, on either side, and beside
 /// itself.
 fn proposed_orders() -> Vec<String> {
-    let mut calls = Vec::new();
     let record = case_2().bytes();
     let good = PROPOSED[0];
+    let mut calls = two_orders(pair_comes_first);
     for first in PROPOSED {
-        calls.extend(PROPOSED.map(|second| lines::better("better", &record, 1, first, second)));
         for (one, two) in [(first, good), (good, first), (first, first)] {
             calls.push(lines::better("better_check", &record, 1, one, two));
         }
@@ -512,16 +550,16 @@ fn faults_under_calls(wanted: impl Fn(usize, usize) -> bool) -> Vec<String> {
     calls
 }
 
-/// Which of these come first: the check of each record, and of the other calls every third.
+/// Which of these come first: the check of each record, and of the other calls every fourth.
 fn comes_first(at: usize, call: usize) -> bool {
-    call == 0 || (at + call) % 3 == 0
+    call == 0 || (at + call) % 4 == 0
 }
 
 /// Faulty records, so that every call that takes a record meets every refusal from 1 to 10.
 fn bad_records() -> Vec<String> {
     let mut calls = faults_under_calls(comes_first);
-    for record in faults::several() {
-        calls.push(lines::plain("check", &record));
+    calls.extend(faults::several().iter().map(|record| lines::plain("check", record)));
+    for record in faults::some_of_several(0) {
         calls.push(lines::plain("thousandths", &record));
         calls.push(lines::run(&record, 9));
     }
@@ -532,16 +570,23 @@ fn bad_records() -> Vec<String> {
     calls
 }
 
+/// Four calls with these sides on a faulty record.
+fn sides_of_a_bad_record(record: &[u8], sides: &[u16]) -> Vec<String> {
+    let mut calls = Vec::new();
+    for side in sides {
+        calls.push(lines::order(record, side, &[]));
+        calls.push(lines::free(record, side));
+        calls.push(lines::better("better", record, side, &[1, 1, 1, 1], &[]));
+        calls.push(lines::better("better_check", record, side, &[1, 1, 1, 1], &[]));
+    }
+    calls
+}
+
 /// Faulty records together with faulty arguments.
 fn bad_records_and_arguments() -> Vec<String> {
     let mut calls = Vec::new();
     for record in faults::one_of_each() {
-        for side in [0, 1, 3, 65535] {
-            calls.push(lines::order(&record, side, &[]));
-            calls.push(lines::free(&record, side));
-            calls.push(lines::better("better", &record, side, &[1, 1, 1, 1], &[]));
-            calls.push(lines::better("better_check", &record, side, &[1, 1, 1, 1], &[]));
-        }
+        calls.extend(sides_of_a_bad_record(&record, &[0, 1, 3]));
         for allowance in [0, 1, 130_818, 130_819, 4_294_967_295_u64] {
             calls.push(lines::run(&record, allowance));
         }
@@ -596,7 +641,7 @@ mod tests {
     fn every_call_meets_every_number_before_it_is_said_again() {
         let first = faults_under_calls(comes_first);
         let words: BTreeSet<&str> = first.iter().filter_map(|line| line.split(' ').next()).collect();
-        assert_eq!(words.len(), 16);
+        assert_eq!(words.len(), 17);
         for word in words.into_iter().filter(|&word| word != "better") {
             let of_word = first.iter().filter(|line| line.split(' ').next() == Some(word));
             let told: BTreeSet<String> = of_word.map(|line| number(line)).collect();

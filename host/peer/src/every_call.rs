@@ -23,6 +23,7 @@ pub fn on(made: &Made, record: &[u8]) -> Vec<String> {
     let second = made.order_of(1, &vec![1; n - 1]);
     calls.push(lines::better("better", record, 1, &first, &second));
     calls.push(lines::better("better_check", record, 1, &first, &second));
+    calls.push(lines::take_in(record, 2, &made.present_order(2), &vec![8; n - 1]));
     calls.push(lines::hold(record, b'B'));
     let numbers = [vec![8; 2 * (n - 1)], vec![8; 2 * (n - 1)], vec![8; n]];
     calls.push(lines::unpack(record, &numbers, &[vec![8; n - 1], vec![8; n - 1]]));

@@ -91,6 +91,18 @@ pub fn several() -> Vec<Vec<u8>> {
     faulty
 }
 
+/// A quarter of those with several faults, for calls that are not the check, which has them all: each call
+/// has a turn, from 0 to 3.
+pub fn some_of_several(turn: usize) -> Vec<Vec<u8>> {
+    several().into_iter().skip(turn).step_by(4).collect()
+}
+
+/// The others.
+pub fn others_of_several(turn: usize) -> Vec<Vec<u8>> {
+    let others = several().into_iter().enumerate().filter(|(at, _)| at % 4 != turn);
+    others.map(|(_, record)| record).collect()
+}
+
 /// Damages a row, a link or a layout byte of a made record, where it has one.
 pub fn damage_a_part(made: &mut Made, random: &mut Random) {
     let n = made.n;

@@ -1,7 +1,7 @@
 // The calls, each with its refusals in their order (docs/CALLS.md): 17, 12, 13, then
 // the record's 1 to 10, then 16, 11, 14. A call that is refused changes nothing that was lent,
 // because it works on a record of its own and puts layouts back at the end only. The call that pins a
-// row is in pins.rs.
+// row is in pins.rs, and the one that takes an order in is in take_in.rs.
 
 use crate::crossings;
 use crate::record::{self, Record, Side};
@@ -38,7 +38,7 @@ pub fn pairs(bytes: &[u8]) -> Result<u32, Refusal> {
     Ok(count_pairs(&record::read(bytes)?))
 }
 
-fn count_pairs(record: &Record) -> u32 {
+pub fn count_pairs(record: &Record) -> u32 {
     crossings::pair_by_pair(&crossings::present_places(record))
 }
 
@@ -85,7 +85,7 @@ pub fn most_thousandths(d: u64, w: u64) -> u32 {
 
 /// Turns each row of a side that is not pinned, from its present byte, exactly if that makes its own
 /// crossings strictly fewer. The other side stands.
-fn free_side(record: &mut Record, side: Side) {
+pub fn free_side(record: &mut Record, side: Side) {
     let own = crossings::own_crossings(record, side);
     for (index, (crossing, upper, lower)) in own.into_iter().enumerate() {
         if !record.is_pinned(side, index) && upper * lower - crossing < crossing {
@@ -167,6 +167,15 @@ pub fn hands(bytes: &mut [u8], entries: &[(u16, u16)]) -> Result<(), Refusal> {
     Ok(())
 }
 
+/// The count with this order on a side, the other side's present order standing.
+pub fn crossings_with(record: &Record, side: Side, order: &[u16]) -> u32 {
+    let links = match side {
+        Side::Left => crossings::link_places(order, &present_order(record, Side::Right), record.links()),
+        Side::Right => crossings::link_places(&present_order(record, Side::Left), order, record.links()),
+    };
+    crossings::pair_by_pair(&links)
+}
+
 /// The tests of better of two: 13, 1 to 10, 16; else the record and the side.
 fn test_better(bytes: &[u8], side: u16, first: &[u16], second: &[u16]) -> Result<(Record, Side), Refusal> {
     let side = Side::of(side)?;
@@ -190,15 +199,8 @@ pub fn better<'a>(bytes: &[u8], side: u16, first: &'a [u16], second: &'a [u16]) 
     let Ok((record, side)) = test_better(bytes, side, first, second) else {
         return &first[..0];
     };
-    let crossing = |order: &[u16]| {
-        let links = match side {
-            Side::Left => crossings::link_places(order, &present_order(&record, Side::Right), record.links()),
-            Side::Right => crossings::link_places(&present_order(&record, Side::Left), order, record.links()),
-        };
-        crossings::pair_by_pair(&links)
-    };
     let (first, second) = (&first[..record.n], &second[..record.n]);
-    if crossing(second) < crossing(first) {
+    if crossings_with(&record, side, second) < crossings_with(&record, side, first) {
         second
     } else {
         first

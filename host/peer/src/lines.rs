@@ -46,6 +46,11 @@ pub fn pin(record: &[u8], side: impl Display, row: impl Display, flag: impl Disp
     format!("pin {} {side} {row} {flag}", hex(record))
 }
 
+/// The layout is what the buffer holds before.
+pub fn take_in(record: &[u8], side: impl Display, order: &[u16], layout: &[u8]) -> String {
+    format!("take_in {} {side} {} {}", hex(record), commas(order), hex(layout))
+}
+
 /// The packing of a made record's lists under its hold; n is given apart from them.
 pub fn pack(n: impl Display, made: &Made, out: &[u8]) -> String {
     let lists = [&made.left, &made.right, &made.links].map(|list| commas(list)).join(" ");

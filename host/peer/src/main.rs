@@ -6,7 +6,7 @@
 //   peer record SHAPE N SEED   one good record; SHAPE is balanced, caterpillar, random or straight
 //   peer pinned SHAPE N SEED STEP   the same with rows STEP, 2 STEP and so on of both sides pinned
 //   peer displaced N D SEED    one good record whose displacement is D
-//   peer speed CALL            nanoseconds per call; CALL is check, count, free or run
+//   peer speed CALL            nanoseconds per call; CALL is check, count, free, take_in or run
 
 mod bad_links;
 mod bad_rows;
@@ -27,6 +27,7 @@ mod merge;
 mod merge_edges;
 mod newick;
 mod newick_edges;
+mod orders;
 mod pin_edges;
 mod pins;
 mod quick;
@@ -41,6 +42,8 @@ mod sides;
 mod speed;
 mod spelling;
 mod tables;
+mod take_in;
+mod take_in_edges;
 mod tree;
 
 use std::io::{self, BufWriter, Read, Write};
@@ -50,7 +53,7 @@ use random::Random;
 
 const USAGE: &str =
     "usage: peer answers | calls SEED COUNT | sheet | record SHAPE N SEED | pinned SHAPE N SEED STEP | \
-    displaced N D SEED | speed check|count|free|run";
+    displaced N D SEED | speed check|count|free|take_in|run";
 
 fn read_at_most(bytes: u64) -> io::Result<Vec<u8>> {
     let mut input = Vec::new();

@@ -66,7 +66,24 @@ const AROUND: &str = "\
     pin R 1:1 1 1|pin R 1,1 1|pin R - 1 1|pin R 1 - 1|pin R -1 1 1|pin R 1 -1 1|pin R 1 1a 1|pin R 1a 1 1|\
     pin R 65536 1 1|pin R 65537 1 1|pin R 1 65536 1|pin R 1 65537 1|pin R 4294967297 1 1|pin R 1 4294967297 1|\
     pin R 1 18446744073709551617 1|pin R0 1 1 1|pin R, 1 1 1|pin 1 R 1 1|pin 1 1 1 R|pin - 3 0 2|pin - 0 65536 1|\
-    pin 00 1 1 2|pin - - - -|Pin R 1 1 1|PIN R 1 1 1|pins R 1 1 1|pi R 1 1 1|unpin R 1 1|unpin R 1 1 1|pin R 1 1 2";
+    pin 00 1 1 2|pin - - - -|Pin R 1 1 1|PIN R 1 1 1|pins R 1 1 1|pi R 1 1 1|unpin R 1 1|unpin R 1 1 1|pin R 1 1 2|\
+    take_in|take_in |take_in R|take_in R 1|take_in R 1 1,2,3,4|take_in R 1 1,2,3,4 |take_in R 1 1,2,3,4 000000 0|\
+    take_in R 1 1,2,3,4 000000 |take_in  R 1 1,2,3,4 000000| take_in R 1 1,2,3,4 000000|take_in R  1 1,2,3,4 000000|\
+    take_in R 1  1,2,3,4 000000|take_in R 1 1,2,3,4  000000|take_in R 1 1,2,3,4 00000|take_in R 1 1,2,3,4 0|\
+    take_in R 1 1,2,3,4 00000g|take_in R 1 1,2,3,4 00000A|take_in R 1 1,2,3,4 0,0,0|take_in R 1 1,2,3,4 00,00,00|\
+    take_in R 1 1,2,3,4 --|take_in R 1 1,2,3,4 -00|take_in R 1 1,2,3,65536 000000|take_in R 1 65537,2,3,4 000000|\
+    take_in R 1 1,2,3,4,65536 000000|take_in R 1 1,2,3,18446744073709551620 000000|take_in R 1 1,2,3, 000000|\
+    take_in R 1 ,1,2,3,4 000000|take_in R 1 1,,2,3,4 000000|take_in R 1 1;2;3;4 000000|take_in R 1 1:2,3:4 000000|\
+    take_in R 1 1,2,3,-4 000000|take_in R 1 1,2,3,+4 000000|take_in R 1 1,2,3,- 000000|take_in R 1 1,2,3,4. 000000|\
+    take_in R 1 -- 000000|take_in R 1 1234 |take_in R 1 1 2 3 4 000000|take_in R 1 0x1,2,3,4 000000|\
+    take_in R 65536 1,2,3,4 000000|take_in R 65537 1,2,3,4 000000|take_in R 4294967297 1,2,3,4 000000|\
+    take_in R -1 1,2,3,4 000000|take_in R +1 1,2,3,4 000000|take_in R - 1,2,3,4 000000|take_in R 1a 1,2,3,4 000000|\
+    take_in R L 1,2,3,4 000000|take_in R 1,2 1,2,3,4 000000|take_in R0 1 1,2,3,4 000000|take_in R, 1 1,2,3,4 000000|\
+    take_in 1 R 1,2,3,4 000000|take_in 1,2,3,4 1 R 000000|take_in R 1 000000 1,2,3,4|take_in R 1,2,3,4 1 000000|\
+    take_in R 1 1,2,3,4 000000\r|take_in R 1 1,2,3,4 000000\t|take_in R 1 1,2,3,4\t000000|take_in - 3 65536 -|\
+    take_in - 65536 - -|take_in 00 3 1, 0|take_in - 0 - 0|Take_in R 1 1,2,3,4 000000|TAKE_IN R 1 1,2,3,4 000000|\
+    take_i R 1 1,2,3,4 000000|take_ins R 1 1,2,3,4 000000|take R 1 1,2,3,4 000000|takein R 1 1,2,3,4 000000|\
+    take-in R 1 1,2,3,4 000000|take in R 1 1,2,3,4 000000|take_in_ R 1 1,2,3,4 000000";
 
 /// Fixed lines around one good record (its hexadecimal digits).
 pub fn fixed(record: &str) -> Vec<String> {

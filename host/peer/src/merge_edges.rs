@@ -25,10 +25,17 @@ pub fn all() -> Vec<String> {
     all.extend(room_for_rows());
     all.extend(several_faults());
     all.extend(layouts_and_room());
-    all.extend(sides::of_a_writing_call(6, |record, side, places| {
-        lines::merge_write(record, side, &vec![-7; places])
-    }));
+    all.extend(sides::of_a_writing_call(6, write_table));
     all
+}
+
+fn write_table(record: &[u8], side: u16, places: usize) -> String {
+    lines::merge_write(record, side, &vec![-7; places])
+}
+
+/// What says again what these say.
+pub fn again() -> Vec<String> {
+    sides::again(6, write_table)
 }
 
 /// Case 2's left and right, and a tree whose rows stand in another order than its leaves.

@@ -24,10 +24,20 @@ pub fn all() -> Vec<String> {
     all.extend(room_for_rows());
     all.extend(layouts_written());
     all.extend(room_for_text());
-    all.extend(sides::of_a_writing_call(14, |record, side, places| {
-        lines::newick_write(record, side, &vec![7; places])
-    }));
+    all.extend(sides::of_a_writing_call(14, write_text));
     all
+}
+
+fn write_text(record: &[u8], side: u16, places: usize) -> String {
+    lines::newick_write(record, side, &vec![7; places])
+}
+
+/// What says again what these say: every byte at places other than the first, and more of writing.
+pub fn again() -> Vec<String> {
+    let others = (0..=255).filter(|&byte| !is_about_a_mark(byte));
+    let mut calls: Vec<String> = others.flat_map(after_the_first).collect();
+    calls.extend(sides::again(14, write_text));
+    calls
 }
 
 /// The first n leaf numbers.
@@ -56,8 +66,8 @@ fn deepest_and_largest() -> Vec<String> {
         read(&spelling::deep_first(&numbers(512)), 1022),
         read(&spelling::deep_second(&numbers(512)), 1023),
         read(&balanced(512), 1022),
-        read(&balanced(512), 1021),
         read(&balanced(513), 1024),
+        read(&balanced(512), 1021),
         read(&spelling::deep_first(&numbers(513)), 3),
         read(&spelling::deep_second(&numbers(513)), 3),
         read(&balanced(511), 1020),
@@ -237,16 +247,26 @@ fn broken_texts() -> Vec<String> {
     calls
 }
 
-/// Every byte as a text's first, after a leaf, in a length and after the semicolon.
+/// Every byte as a text's first; those about the bytes that have a meaning also after a leaf, in a length and
+/// after the semicolon.
 fn any_byte() -> Vec<String> {
-    let mut calls = Vec::new();
-    for byte in 0..=255 {
-        calls.push(lines::newick_read(&[byte, b';'], &[]));
-        calls.push(lines::newick_read(&[b'1', byte, b';'], &[]));
-        calls.push(lines::newick_read(&[b'1', b':', b'2', byte, b'3', b';'], &[]));
-        calls.push(lines::newick_read(&[b'1', b';', byte], &[]));
-    }
+    let mut calls: Vec<String> = (0..=255).map(|byte| lines::newick_read(&[byte, b';'], &[])).collect();
+    calls.extend((0..=255).filter(|&byte| is_about_a_mark(byte)).flat_map(after_the_first));
     calls
+}
+
+/// Whether a byte has a meaning in a text, or is a blank or a sign, or stands beside such a one or at an end of
+/// what a byte of 7 or of 8 bits can be, or is such a one with its high bit changed.
+fn is_about_a_mark(byte: u8) -> bool {
+    let is_mark = |byte: u8| b"0123456789(),;:. \t\n\r+-_'[]".contains(&byte);
+    let beside = [byte.wrapping_sub(1), byte, byte.wrapping_add(1), byte ^ 128];
+    beside.iter().any(|&other| is_mark(other)) || [0, 1, 126, 127, 254, 255].contains(&byte)
+}
+
+/// A byte after a leaf, in a length and after the semicolon.
+fn after_the_first(byte: u8) -> [String; 3] {
+    let texts = [&[b'1', byte, b';'][..], &[b'1', b':', b'2', byte, b'3', b';'], &[b'1', b';', byte]];
+    texts.map(|text| lines::newick_read(text, &[]))
 }
 
 /// A text with a byte at a place.
@@ -399,7 +419,7 @@ mod tests {
     #[test]
     fn the_limits_show() {
         let numbers: Vec<String> = deepest_and_largest().iter().map(|line| number(line)).collect();
-        assert_eq!(numbers.join(","), "0,0,0,14,19,18,18,0,18,18,18");
+        assert_eq!(numbers.join(","), "0,0,0,19,14,18,18,0,18,18,18");
         let numbers: Vec<String> = largest_written().iter().map(|line| number(line)).collect();
         assert_eq!(numbers.join(","), "0,14,0,0,0,0,0,0,0,0,0");
         let numbers: Vec<String> = long_pieces().iter().map(|line| number(line)).collect();

@@ -34,31 +34,31 @@ pub fn all() -> Vec<String> {
     all
 }
 
-fn with_layouts(mut made: Made, left: &[u8], right: &[u8]) -> Made {
+pub fn with_layouts(mut made: Made, left: &[u8], right: &[u8]) -> Made {
     made.left_layout = left.to_vec();
     made.right_layout = right.to_vec();
     made
 }
 
-fn with_hold(mut made: Made, hold: u8) -> Made {
+pub fn with_hold(mut made: Made, hold: u8) -> Made {
     made.hold = hold;
     made
 }
 
 /// Two leaves whose links cross: example 8.
-fn crossed() -> Made {
+pub fn crossed() -> Made {
     let mut made = example(&[1, 2], &[1, 2]);
     made.links.reverse();
     made
 }
 
 /// Every two layout bytes.
-fn two_bytes() -> impl Iterator<Item = [u8; 2]> {
+pub fn two_bytes() -> impl Iterator<Item = [u8; 2]> {
     (0..16).map(|bits| [bits / 4, bits % 4])
 }
 
 /// Over 512 leaves, every third row pinned, some as given and some turned over.
-fn largest_pinned() -> Made {
+pub fn largest_pinned() -> Made {
     let turned = |often: usize| (0..511).map(|index| (index % often == 1) as u8).collect::<Vec<u8>>();
     with_layouts(backwards(), &turned(2), &turned(5)).every_pinned(3)
 }
@@ -97,6 +97,7 @@ fn others_of_the_largest() -> Vec<String> {
 
 /// The first and the last row of either side of example 6.
 const ENDS: [(u16, usize); 4] = [(1, 1), (1, 2), (2, 1), (2, 2)];
+const MIDDLE: [(u16, usize); 2] = [ENDS[1], ENDS[2]];
 
 fn with_byte((side, row): (u16, usize), byte: u8) -> Made {
     let mut made = example_6();
@@ -112,11 +113,18 @@ fn under_every_call(at: (u16, usize), byte: u8) -> Vec<String> {
     calls
 }
 
-/// 3 and 4 under every call; other bytes under the check.
+/// 3 and 4 at the first end and the last under every call, at the others under the check and packing; other
+/// bytes under the check.
 fn limits_of_a_byte() -> Vec<String> {
     let mut calls = Vec::new();
     for at in ENDS {
-        calls.extend([3, 4].map(|byte| under_every_call(at, byte)).concat());
+        for byte in [3, 4] {
+            let lines = under_every_call(at, byte);
+            let last = lines.len() - 1;
+            let is_kept = |call: usize| !MIDDLE.contains(&at) || call == 0 || call == last;
+            calls
+                .extend(lines.into_iter().enumerate().filter(|&(call, _)| is_kept(call)).map(|(_, line)| line));
+        }
         let others = [2, 5, 6, 7, 8, 16, 32, 64, 127, 128, 130, 131, 254, 255];
         calls.extend(others.map(|byte| lines::plain("check", &with_byte(at, byte).bytes())));
     }
@@ -220,7 +228,18 @@ fn several_faults() -> Vec<String> {
             calls.push(lines::pin(&record, side, row, side % 2));
         }
     }
-    calls.extend(faults::several().iter().map(|record| lines::pin(record, 2, 4, 1)));
+    calls.extend(faults::some_of_several(1).iter().map(|record| lines::pin(record, 2, 4, 1)));
+    calls
+}
+
+/// What says again what these say: both sides of a byte's limit in the middle two of the four ends under the
+/// calls other than the check and packing, and most records with several faults.
+pub fn again() -> Vec<String> {
+    let mut calls = Vec::new();
+    for at in MIDDLE {
+        calls.extend([3, 4].map(|byte| under_every_call(at, byte)).concat());
+    }
+    calls.extend(faults::others_of_several(1).iter().map(|record| lines::pin(record, 2, 4, 1)));
     calls
 }
 
@@ -421,11 +440,12 @@ mod tests {
             let mut three = numbers(&under_every_call(at, 3));
             let named_by_hand = at == (1, 2) || at == (2, 1);
             assert_eq!(three.iter().filter(|&number| number == "22").count(), named_by_hand as usize);
-            three.retain(|number| number != "22");
+            assert_eq!(three.iter().filter(|&number| number == "23").count(), (at.0 == 2) as usize);
+            three.retain(|number| number != "22" && number != "23");
             assert!(three.iter().all(|number| number == "0" || number.contains(',')));
             let mut four = numbers(&under_every_call(at, 4));
             four.retain(|number| number != "-");
-            assert!(four.len() == 19 && four.iter().all(|number| number == "10"));
+            assert!(four.len() == 20 && four.iter().all(|number| number == "10"));
         }
     }
 

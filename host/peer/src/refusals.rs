@@ -34,6 +34,7 @@ pub const LEAVES: Refusal = without_row(19);
 pub const ENTRY: Refusal = without_row(20);
 pub const TWICE: Refusal = without_row(21);
 pub const PINNED: Refusal = without_row(22);
+pub const AGAINST: Refusal = without_row(23);
 
 /// 7, with the lowest left row that breaks the tree rule.
 pub const fn left_row(row: u16) -> Refusal {
@@ -71,11 +72,11 @@ mod tests {
     fn a_row_is_told_with_7_and_8_only() {
         let numbers = [
             SHORT, MARK, VERSION, HOLD, SIZE, LENGTH, LINKS, LAYOUT, HELD, ALLOWANCE, SIDE, BUFFER, ROW, ORDER,
-            HANDS, GRAMMAR, LEAVES, ENTRY, TWICE, PINNED,
+            HANDS, GRAMMAR, LEAVES, ENTRY, TWICE, PINNED, AGAINST,
         ];
         assert!(numbers.iter().all(|refusal| refusal.row == 0));
         let text: Vec<String> = numbers.iter().map(|refusal| refusal.to_string()).collect();
-        assert_eq!(text.join(","), "1,2,3,4,5,6,9,10,11,12,13,14,15,16,17,18,19,20,21,22");
+        assert_eq!(text.join(","), "1,2,3,4,5,6,9,10,11,12,13,14,15,16,17,18,19,20,21,22,23");
         assert_eq!(left_row(3).to_string(), "7 3");
         assert_eq!(right_row(511).to_string(), "8 511");
         assert_eq!(told(&Ok(5)), "0");

@@ -1,5 +1,6 @@
 // The fixed calls of a call that writes a side of a record into a buffer: every side on good records,
-// those about 1 and 2 on faulty ones, with room and without; and the others on faulty ones.
+// those about 1 and 2 on faulty ones, with room and without; and, since it says no more, the others on
+// faulty ones and on records that are held, and most records with several faults.
 
 use crate::faults;
 use crate::made::case_2;
@@ -7,22 +8,33 @@ use crate::made::case_2;
 /// Sides that are not about 1 and 2.
 const FAR: [u16; 4] = [256, 257, 258, 65535];
 
-/// Such sides on faulty records; `line` writes a call by its record and its side.
-pub fn far_off(line: impl Fn(&[u8], u16) -> String) -> Vec<String> {
-    let on = |record: Vec<u8>| FAR.map(|side| line(&record, side));
-    faults::one_of_each().into_iter().flat_map(on).collect()
+/// Case 2 under a hold.
+fn held(hold: u8) -> Vec<u8> {
+    let mut made = case_2();
+    made.hold = hold;
+    made.bytes()
+}
+
+/// What says again what `of_a_writing_call` says.
+pub fn again(room: usize, line: impl Fn(&[u8], u16, usize) -> String) -> Vec<String> {
+    let mut calls = Vec::new();
+    for record in faults::one_of_each() {
+        calls.extend(FAR.map(|side| line(&record, side, 0)));
+    }
+    for hold in *b"LRB" {
+        calls.extend(FAR.map(|side| line(&held(hold), side, room)));
+    }
+    calls.extend(faults::others_of_several(2).iter().map(|record| line(record, 2, 3)));
+    calls
 }
 
 /// `line` writes a call by its record, its side and its places; case 2's sides want `room` of them.
 pub fn of_a_writing_call(room: usize, line: impl Fn(&[u8], u16, usize) -> String) -> Vec<String> {
     let mut calls = Vec::new();
-    for side in [0, 1, 2, 3].into_iter().chain(FAR) {
-        for hold in *b"NLRB" {
-            let mut made = case_2();
-            made.hold = hold;
-            calls.push(line(&made.bytes(), side, room));
-        }
+    for side in [0, 1, 2, 3] {
+        calls.extend(b"NLRB".map(|hold| line(&held(hold), side, room)));
     }
+    calls.extend(FAR.map(|side| line(&held(b'N'), side, room)));
     for record in faults::one_of_each() {
         calls.extend([0, 1, 2, 3].map(|side| line(&record, side, 0)));
     }
@@ -30,9 +42,7 @@ pub fn of_a_writing_call(room: usize, line: impl Fn(&[u8], u16, usize) -> String
         calls.push(line(&record, 1, room - 1));
         calls.push(line(&record, 2, room));
     }
-    for record in faults::several() {
-        calls.push(line(&record, 2, 3));
-    }
+    calls.extend(faults::some_of_several(2).iter().map(|record| line(record, 2, 3)));
     calls
 }
 

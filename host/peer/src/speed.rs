@@ -1,12 +1,15 @@
-// Nanoseconds per call of check, count, free (the left) and run (the whole allowance) on one
-// record. Each call includes the complete check of the record; free and run restore the record's
-// bytes from a copy before each call. The answer is the median over several batches.
+// Nanoseconds per call of check, count, free (the left), take_in (the order that freeing leaves the left)
+// and run (the whole allowance) on one record. Each call includes the complete check of the record; free
+// and run restore the record's bytes from a copy before each call. The answer is the median over several
+// batches.
 
 use std::hint::black_box;
 use std::time::{Duration, Instant};
 
 use crate::firmware;
 use crate::quick;
+use crate::record::{self, Side};
+use crate::tree;
 
 const BATCH: Duration = Duration::from_millis(50);
 const BATCHES: usize = 9;
@@ -34,6 +37,14 @@ pub fn speed(call: &str, record: &[u8]) -> Option<u64> {
                 let _ = black_box(quick::free(black_box(&mut lent), 1));
             }))
         }
+        "take_in" => {
+            let order = freed_order(record)?;
+            let mut layout = vec![0; order.len() - 1];
+            quick::take_in(record, 1, &order, &mut layout).ok()?;
+            Some(median(|| {
+                let _ = black_box(quick::take_in(black_box(record), 1, black_box(&order), &mut layout));
+            }))
+        }
         "run" => {
             quick::run(&mut lent, 130_818).ok()?;
             Some(median(|| {
@@ -43,6 +54,14 @@ pub fn speed(call: &str, record: &[u8]) -> Option<u64> {
         }
         _ => None,
     }
+}
+
+/// The left order that freeing the left leaves.
+fn freed_order(record: &[u8]) -> Option<Vec<u16>> {
+    let mut freed = record.to_vec();
+    quick::free(&mut freed, 1).ok()?;
+    let record = record::read(&freed).ok()?;
+    Some(tree::leaf_order(record.rows(Side::Left), record.layout(Side::Left)))
 }
 
 /// How long so many calls take.

@@ -124,6 +124,23 @@ pub fn is_compatible(rows: &[Row], order: &[u16]) -> bool {
     true
 }
 
+/// All orders of 1 to n, in no matter which sequence.
+#[cfg(test)]
+pub fn all_orders(n: u16) -> Vec<Vec<u16>> {
+    if n == 0 {
+        return vec![Vec::new()];
+    }
+    let mut orders = Vec::new();
+    for shorter in all_orders(n - 1) {
+        for place in 0..n as usize {
+            let mut order = shorter.clone();
+            order.insert(place, n);
+            orders.push(order);
+        }
+    }
+    orders
+}
+
 #[cfg(test)]
 mod tests {
     use super::*;
@@ -199,22 +216,6 @@ mod tests {
                 assert!(is_compatible(record.rows(side), &order));
             }
         }
-    }
-
-    /// All orders of 1 to n, in no matter which sequence.
-    fn all_orders(n: u16) -> Vec<Vec<u16>> {
-        if n == 0 {
-            return vec![Vec::new()];
-        }
-        let mut orders = Vec::new();
-        for shorter in all_orders(n - 1) {
-            for place in 0..n as usize {
-                let mut order = shorter.clone();
-                order.insert(place, n);
-                orders.push(order);
-            }
-        }
-        orders
     }
 
     #[test]
