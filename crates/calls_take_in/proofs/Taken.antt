@@ -74,6 +74,12 @@ module _ (s : List ℕ) (side : ℕ) (xs out : List ℕ) where
     unfolding takeInRefusal
     taking-record h = rw good (sym (else-first (refusal s) _ h))
 
+    -- of an accepted record
+    pub taking-then : refusal s ≡ 0 →
+        takeInRefusal s side xs out ≡ (16 when not one else 23 when against else 14 when ltb (length out) (sizeOf s - 1) else 0)
+    unfolding takeInRefusal
+    taking-then a = rw (good, a) refl
+
     module _ (a : refusal s ≡ 0) {n : ℕ} (e : n ≡ sizeOf s) {k : ℕ} {lay : List ℕ} (told : OrderTold s n (sideOf side) xs k lay) where
       here : k ≡ (16 when not one else 23 when against else 0)
       here = rw e at (told .told)

@@ -15,6 +15,8 @@ pub mod Entanglement
 pub mod HandsTwice
 pub mod Newick
 pub mod Merge
+pub mod TakenOrders
+pub mod TakeIn
 pub mod Examples
 pub mod Tried
 pub mod Promises

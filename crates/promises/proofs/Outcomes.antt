@@ -35,6 +35,7 @@ outcomes = record {
       (equal-to-one (p .answers) (q .answers), equal-to-one (p .begins) (q .begins));
   compare = λ s side first second a b p q. equal-to-one (p .answers) (q .answers);
   better-check = λ s side first second a b p q. equal-to-one (p .answers) (q .answers);
+  take-in = λ s side xs out a b x y p q. (equal-to-one (p .answers) (q .answers), equal-to-one (p .afterwards) (q .afterwards));
   newick-read = λ text out a b x y p q. (equal-to-one (p .answers) (q .answers), equal-to-one (p .afterwards) (q .afterwards));
   newick-write = λ s side out a b x y p q. (equal-to-one (p .answers) (q .answers), equal-to-one (p .afterwards) (q .afterwards));
   merge-read = λ n table out a b x y p q. (equal-to-one (p .answers) (q .answers), equal-to-one (p .afterwards) (q .afterwards));

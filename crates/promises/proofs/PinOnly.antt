@@ -206,7 +206,7 @@ contents-most P =
     let d = when-most (breaksRule (P .size) (P .right-rows)) 8 _ 10 (omega arith) c in
     when-most (breaksRule (P .size) (P .left-rows)) 7 _ 10 (omega arith) d
 
-refusal-most : (s : List ℕ) → refusal s ≤ 10
+pub refusal-most : (s : List ℕ) → refusal s ≤ 10
 unfolding refusal
 refusal-most s = else-most (headingRefusal s) (contentsRefusal (parts s)) 10 (heading-most s) (contents-most (parts s))
 

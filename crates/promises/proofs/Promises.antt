@@ -7,6 +7,7 @@ use Rattle.promises.proofs.Entanglement.{entanglement}
 use Rattle.promises.proofs.HandsTwice.{hands-twice}
 use Rattle.promises.proofs.Newick.{newick}
 use Rattle.promises.proofs.Merge.{merge}
+use Rattle.promises.proofs.TakeIn.{take-in}
 use Rattle.promises.proofs.Examples.{examples}
 use Rattle.promises.proofs.Tried.{tried}
 
@@ -19,6 +20,7 @@ promises = record {
   hands-twice = hands-twice;
   newick = newick;
   merge = merge;
+  take-in = take-in;
   examples = examples;
   tried = tried;
 }

@@ -26,6 +26,7 @@ use Rattle.calls_hands.specs.Refusals.{handsRefusal}
 use Rattle.calls_pins.specs.Refusals.{pinRefusal}
 use Rattle.calls_better.specs.Refusals.{betterRefusal}
 use Rattle.calls_better.specs.Calls.{betterPart, betterWhich}
+use Rattle.calls_take_in.specs.Refusals.{takeInRefusal}
 use Rattle.newick.specs.Sentence.{leafCount}
 use Rattle.newick.specs.Rows.{rowsOf}
 use Rattle.calls_newick.specs.Refusals.{said, newickReadRefusal, writtenText, newickWriteRefusal}
@@ -92,6 +93,9 @@ refused-calls = record {
   compare = λ s side first second answer o h.
       let e = ne-eqb (betterRefusal s side first second) 0 (λ z. h (ap (λ a. a .refusal .number) (o .answers) ∙ z)) in
       (ap (λ a. a .which) (o .answers) ∙ rw e refl, ap (λ a. a .length) (o .answers) ∙ rw e refl);
+  take-in = λ s side xs out answer out′ o h.
+      let e = ne-eqb (takeInRefusal s side xs out) 0 (λ z. h (ap (λ a. a .refusal .number) (o .answers) ∙ z)) in
+      (o .afterwards ∙ rw e refl, ap (λ a. a .count) (o .answers) ∙ rw e refl, ap (λ a. a .least) (o .answers) ∙ rw e refl);
   newick-read = λ text out answer out′ o h.
       let k = newickReadRefusal text out in
       let z : k ≢ 0 = λ e. h (ap (λ a. a .refusal .number) (o .answers) ∙ e) in (

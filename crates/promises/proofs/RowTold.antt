@@ -19,6 +19,7 @@ use Rattle.calls_turns.proofs.Turns.{free-own, run-own}
 use Rattle.calls_hands.proofs.HandLists.{hands-own}
 use Rattle.calls_pins.proofs.Pinned.{pin-own}
 use Rattle.calls_better.proofs.Compared.{compare-own}
+use Rattle.calls_take_in.proofs.Taken.{take-in-own}
 use Rattle.calls_newick.proofs.Outcomes.{write-own}
 use Rattle.calls_merge.proofs.SideWritten.{merge-own}
 use Rattle.promises.specs.RowTold as RowTold
@@ -51,6 +52,7 @@ row-told = record {
   pin = λ s side row pinned answer s′ p. tells-row s (pin-own s side row refl) (p .answers);
   compare = λ s side first second answer p. tells-row s (compare-own s side first second refl) (ap (λ a. a .refusal) (p .answers));
   better-check = λ s side first second answer p. tells-row s (compare-own s side first second refl) (p .answers);
+  take-in = λ s side xs out answer out′ p. tells-row s (take-in-own s side xs out refl) (ap (λ a. a .refusal) (p .answers));
   newick-write = λ s side out answer out′ p. tells-row s (write-own s side out refl) (ap (λ a. a .refusal) (p .answers));
   merge-write = λ s side out answer out′ p. tells-row s (merge-own s side out refl) (p .answers);
 }

@@ -8,7 +8,8 @@ use Rattle.record_fields.specs.Refusals.{breaksRule}
 use Rattle.record_fields.proofs.Meaning.{rule-kept}
 use Rattle.record_fields.proofs.SaysRow.{broken-lowest}
 use Rattle.record_fields.proofs.Tests.{one-to-one-perm, layout-small, small-layout}
-use Rattle.calls_better.proofs.Proposed.{is-order-compatible}
+use Rattle.tanglegram.proofs.PinnedAs.{against-choice}
+use Rattle.record_orders.proofs.Proposals.{is-order-compatible}
 use Rattle.promises.specs.Tests as Tests
 
 pub tests : Tests.Tests
@@ -22,4 +23,5 @@ tests = record {
   one-to-one = one-to-one-perm;
   layout-bytes = λ bytes. (layout-small bytes, small-layout bytes);
   compatible = is-order-compatible;
+  against-pins = against-choice;
 }

@@ -14,6 +14,7 @@ pub mod Entanglement
 pub mod HandsTwice
 pub mod Newick
 pub mod Merge
+pub mod TakeIn
 pub mod Cases
 pub mod MergeExamples
 pub mod PinExamples

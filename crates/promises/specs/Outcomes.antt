@@ -17,6 +17,7 @@ use Rattle.calls_hands.specs.Refusals.{Hand}
 use Rattle.calls_hands.specs.Calls.{Hands}
 use Rattle.calls_pins.specs.Calls.{Pins}
 use Rattle.calls_better.specs.Calls.{Address, Betters, Compares, BetterChecks}
+use Rattle.calls_take_in.specs.Calls.{TakesIn}
 use Rattle.calls_newick.specs.Calls.{NewickReads, NewickWrites}
 use Rattle.calls_merge.specs.Calls.{MergeReads, MergeWrites}
 
@@ -56,6 +57,7 @@ pub record Outcomes : Type 0 where
       (x ≡ y) × (x-at ≡ y-at)
   pub compare : (s : List ℕ) (side : ℕ) (first second : List ℕ) → Fixes (Compares s side first second)
   pub better-check : (s : List ℕ) (side : ℕ) (first second : List ℕ) → Fixes (BetterChecks s side first second)
+  pub take-in : (s : List ℕ) (side : ℕ) (xs out : List ℕ) → FixesBoth (TakesIn s side xs out)
   pub newick-read : (text out : List ℕ) → FixesBoth (NewickReads text out)
   pub newick-write : (s : List ℕ) (side : ℕ) (out : List ℕ) → FixesBoth (NewickWrites s side out)
   pub merge-read : (n : ℕ) (table : List ℤ) (out : List ℕ) → FixesBoth (MergeReads n table out)

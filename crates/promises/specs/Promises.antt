@@ -6,6 +6,7 @@ use Rattle.promises.specs.Entanglement.{Entanglement}
 use Rattle.promises.specs.HandsTwice.{HandsTwice}
 use Rattle.promises.specs.Newick.{Newick}
 use Rattle.promises.specs.Merge.{Merge}
+use Rattle.promises.specs.TakeIn.{TakeIn}
 use Rattle.promises.specs.Examples.{Examples}
 use Rattle.promises.specs.Tried.{Tried}
 
@@ -25,6 +26,9 @@ pub record Promises : Type 0 where
   pub newick : Newick
   -- Merge tables are refused for what the tree rule refuses and for nothing else, and tables and rows are the same there and back.
   pub merge : Merge
+  -- An order is taken in exactly if a permitted layout gives it; the bytes answered are the only ones, and least is said exactly if no
+  -- permitted choice crosses less.
+  pub take-in : TakeIn
   -- The examples come out as the customer has them.
   pub examples : Examples
   -- Wrong outcomes are excluded.

@@ -26,6 +26,8 @@ use Rattle.calls_pins.specs.Calls.{Pins}
 use Rattle.calls_better.specs.Refusals.{betterRefusal}
 use Rattle.calls_better.specs.declared.answers.Compared.{Compared}
 use Rattle.calls_better.specs.Calls.{Address, Betters, Compares}
+use Rattle.calls_take_in.specs.declared.answers.TakenIn.{TakenIn}
+use Rattle.calls_take_in.specs.Calls.{TakesIn}
 use Rattle.calls_newick.specs.declared.answers.NewickRead.{NewickRead}
 use Rattle.calls_newick.specs.declared.answers.NewickWritten.{NewickWritten}
 use Rattle.calls_newick.specs.Calls.{NewickReads, NewickWrites}
@@ -70,6 +72,8 @@ pub record RefusedCalls : Type 0 where
       (part ≡ []) × (part-at ≡ first-at)
   pub compare : (s : List ℕ) (side : ℕ) (first second : List ℕ) (answer : Compared) → Compares s side first second answer →
       answer .refusal .number ≢ 0 → (answer .which ≡ 0) × (answer .length ≡ 0)
+  pub take-in : (s : List ℕ) (side : ℕ) (xs out : List ℕ) (answer : TakenIn) (out′ : List ℕ) → TakesIn s side xs out answer out′ →
+      answer .refusal .number ≢ 0 → (out′ ≡ out) × (answer .count ≡ 0) × (answer .least ≡ 0)
   pub newick-read : (text out : List ℕ) (answer : NewickRead) (out′ : List ℕ) → NewickReads text out answer out′ →
       answer .refusal .number ≢ 0 → (out′ ≡ out) × (answer .n ≡ 0)
   pub newick-write : (s : List ℕ) (side : ℕ) (out : List ℕ) (answer : NewickWritten) (out′ : List ℕ) → NewickWrites s side out answer out′ →

@@ -24,6 +24,8 @@ use Rattle.calls_hands.specs.Calls.{Hands}
 use Rattle.calls_pins.specs.Calls.{Pins}
 use Rattle.calls_better.specs.declared.answers.Compared.{Compared}
 use Rattle.calls_better.specs.Calls.{Compares, BetterChecks}
+use Rattle.calls_take_in.specs.declared.answers.TakenIn.{TakenIn}
+use Rattle.calls_take_in.specs.Calls.{TakesIn}
 use Rattle.calls_newick.specs.declared.answers.NewickWritten.{NewickWritten}
 use Rattle.calls_newick.specs.Calls.{NewickWrites}
 use Rattle.calls_merge.specs.Calls.{MergeWrites}
@@ -56,6 +58,8 @@ pub record RowTold : Type 0 where
       Says s (answer .refusal)
   pub better-check : (s : List ℕ) (side : ℕ) (first second : List ℕ) (answer : Refusal) → BetterChecks s side first second answer →
       Says s answer
+  pub take-in : (s : List ℕ) (side : ℕ) (xs out : List ℕ) (answer : TakenIn) (out′ : List ℕ) → TakesIn s side xs out answer out′ →
+      Says s (answer .refusal)
   -- Reading a text has no record: `Newick` says that its refusals come with row 0.
   pub newick-write : (s : List ℕ) (side : ℕ) (out : List ℕ) (answer : NewickWritten) (out′ : List ℕ) → NewickWrites s side out answer out′ →
       Says s (answer .refusal)

@@ -1,5 +1,6 @@
--- What the tests behind the refusals 7, 8, 9, 10 and 16 say. The refusals are stated by tests that can be carried out; each of them is
--- here what its words mean: the tree rule row by row, links one to one, bytes from 0 to 3, and the interval definition of compatible.
+-- What the tests behind the refusals 7, 8, 9, 10, 16 and 23 say. The refusals are stated by tests that can be carried out; each of them is
+-- here what its words mean: the tree rule row by row, links one to one, bytes from 0 to 3, the interval definition of compatible, and the
+-- choices that pins permit.
 use Prim.Native.Nat.{ℕ, _≤_}
 use mathlib.Core.Path.{_≡_}
 use mathlib.Core.Bool.{true, false}
@@ -8,14 +9,14 @@ use mathlib.Core.List.{List, List·Permᴰ}
 use lib.ListN.{length, take}
 use Rattle.tanglegram.specs.Lists.{Each, range}
 use Rattle.tanglegram.specs.Tree.{Rule}
-use Rattle.tanglegram.specs.Order.{Compatible}
+use Rattle.tanglegram.specs.Order.{Choice, againstPins, Compatible}
 use Rattle.tanglegram.specs.Run.{Side}
 use Rattle.work_trees.specs.Rows.{upper, lower}
 use Rattle.work_tree_rule.specs.Rule.{badRow, Lowest}
 use Rattle.record_fields.specs.Fields.{sizeOf}
 use Rattle.record_fields.specs.Refusals.{breaksRule, oneToOne, isLayout, refusal}
 use Rattle.record_fields.specs.Meaning.{tableOf}
-use Rattle.calls_better.specs.Refusals.{isOrder}
+use Rattle.record_orders.specs.Proposed.{isOrder}
 
 pub record Tests : Type 0 where
   -- 7 and 8: rows pass exactly if each of rows 1 to n - 1 keeps the tree rule.
@@ -31,3 +32,5 @@ pub record Tests : Type 0 where
   pub compatible : (s : List ℕ) → refusal s ≡ 0 → (side : Side) (xs : List ℕ) →
       (isOrder (sizeOf s) (tableOf s .tree side) xs ≡ true) ↔
       ((sizeOf s ≤ length xs) × Compatible (tableOf s .tree side) (take (sizeOf s) xs))
+  -- 23: a layout goes against no pin of another, a byte for each row in both, exactly if it is a choice that these pins permit.
+  pub against-pins : (pins lay : List ℕ) → length pins ≡ length lay → (againstPins pins lay ≡ false) ↔ Choice pins lay

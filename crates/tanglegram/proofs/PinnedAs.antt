@@ -3,7 +3,7 @@
 use Prim.Native.Nat.{ℕ, zero, suc, pred, _≤_, _<_}
 use mathlib.Core.Path.{_≡_, refl, sym, ap, ap₂, _∙_}
 use mathlib.Core.Logic.{_↔_}
-use mathlib.Core.Bool.{Bool, true, false, cond, not, _&&_, _||_}
+use mathlib.Core.Bool.{Bool, true, false, cond, not, _&&_, _||_, true≢false}
 use mathlib.Core.List.{List, [], _∷_}
 use native.Mathlib.Omega.{arith}
 use lib.ListN.{length, getD}
@@ -70,6 +70,12 @@ layout-bytes-only lay lay′ n s s′ t m =
     sym (byteOf-read (getD lay i 0) (each-mem (λ x. x ≤ 3) s (mem-at lay i h)))
     ∙ ap₂ (λ c b. byteOf (not c) b) (m i h) (t i h)
     ∙ byteOf-read (getD lay′ i 0) (each-mem (λ x. x ≤ 3) s′ (mem-at lay′ i (omega arith))))
+
+-- a byte past the last is read as 0, so a pinned row has its byte within the layout
+pub pinned-within : (lay : List ℕ) (i : ℕ) → mayChange (getD lay i 0) ≡ false → i < length lay
+pinned-within [] i h = absurd (true≢false h)
+pinned-within (x ∷ lay) zero h = omega arith
+pinned-within (x ∷ lay) (suc i) h = let k = pinned-within lay i h in omega arith
 
 -- ---- which layouts go against pins
 

@@ -25,7 +25,7 @@ pub put-again : (side : Side) (any new : List ℕ) (s : Layouts) → put side an
 put-again left any new s = refl
 put-again right any new s = refl
 
-put-freed : (T : Table) (side : Side) (s : Layouts) → put side (layout (free T side s) side) s ≡ free T side s
+pub put-freed : (T : Table) (side : Side) (s : Layouts) → put side (layout (free T side s) side) s ≡ free T side s
 put-freed T left s = refl
 put-freed T right s = refl
 
