@@ -7,7 +7,7 @@ use borrow.Author.Tests.{eqb-true, eqb-false, leb-true, ltb-true, not-true}
 use lib.Dec.{eqb, leb, ltb}
 use Rattle.tanglegram.specs.Lists.{place, range}
 use Rattle.tanglegram.specs.Tree.{leaves, deep, object, used}
-use Rattle.tanglegram.specs.Order.{order, write}
+use Rattle.tanglegram.specs.Order.{order, write, uppermost, reading, pinnedAs, againstPins}
 use Rattle.tanglegram.specs.Crossings.{over, across, pairs, count}
 use Rattle.tanglegram.specs.Freeing.{choose, freed}
 use Rattle.tanglegram.specs.Run.{go, run, after}
@@ -29,6 +29,8 @@ use Rattle.calls_turns.specs.Refusals.{noAllowance, freeRefusal, runRefusal}
 use Rattle.calls_hands.specs.Refusals.{handRefusal, entriesRefusal, handsRefusal}
 use Rattle.calls_hands.specs.Calls.{handed}
 use Rattle.calls_pins.specs.Refusals.{pinRefusal}
+use Rattle.record_orders.specs.Proposed.{same, isOrder}
+use Rattle.calls_take_in.specs.Refusals.{takeInRefusal}
 use Rattle.calls_show.specs.declared.answers.InThousandths.{InThousandths}
 use Rattle.calls_show.specs.declared.answers.InThousandths.the-variants as in-thousandths
 use Rattle.calls_show.specs.Calls.{squaredEntanglement, TellsThousandths}
@@ -94,6 +96,7 @@ unfolding order write leaves deep object count place range over across pairs cho
     textRead leafNumbers rowsOf keepsGrammar said isNumbered newickReadRefusal sentenceOf textOf writtenText
     namedBy entryFor namesNone rowsIn tableFor any someNone amongEntries twice mergeReadRefusal writtenTable
     noRow pinRefusal handRefusal entriesRefusal handsRefusal handed
+    uppermost reading pinnedAs againstPins same isOrder takeInRefusal
 examples = record {
   table = refl;
   in-thousandths = all-told list.examples refl;
@@ -103,4 +106,5 @@ examples = record {
   tables-written = refl;
   pins = refl;
   hands = refl;
+  orders-taken-in = refl;
 }

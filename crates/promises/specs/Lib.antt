@@ -18,6 +18,7 @@ pub mod TakeIn
 pub mod Cases
 pub mod MergeExamples
 pub mod PinExamples
+pub mod TakeInExamples
 pub mod Examples
 pub mod Tried
 pub mod Promises
