@@ -18,5 +18,6 @@ pub mod Merge
 pub mod TakenOrders
 pub mod TakeIn
 pub mod Examples
+pub mod TakeInTried
 pub mod Tried
 pub mod Promises

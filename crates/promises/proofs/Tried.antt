@@ -44,6 +44,7 @@ use Rattle.promises.specs.Cases.{recordOf, case2Freed}
 use Rattle.promises.specs.MergeExamples.{plus, example1}
 use Rattle.promises.proofs.Merge.{told-number}
 use Rattle.promises.specs.Newick.{ReadAs}
+use Rattle.promises.proofs.TakeInTried.{tried as take-in-tried}
 use Rattle.promises.specs.Tried.{tied, byte4, tiedPinned, pinnedRoot, rootMoved, pinnedHeld, case2Record, pinnedOver, cleared}
 use Rattle.promises.specs.Tried.{bothBad, goodText, badText, nines, twiceThenZero, ownRow, leafTwice, Tried}
 
@@ -202,6 +203,7 @@ tried = record {
   leaf-in-two-rows = λ out k. let e = told-number _ _ _ (k .exactly 0 .0 refl) in omega (arith, e, numbers-told .3);
   signs-exchanged = λ k. let e = ap (λ r. getD r 0 0) (k .rows-read refl) in omega (arith, e, rows-begin);
   no-rows-written = λ k. let e = ap (λ r. getD r 0 0) (k .rows-read refl) in omega (arith, e, rows-begin);
+  orders-taken-in = take-in-tried;
   turned-over-in-table = λ out k. let e = row-2 (k .names-rows 2 room) in omega (arith, e);
   part-elsewhere = λ s side first second first-at second-at part part-at e ne b. ne (b .begins ∙ rw e refl);
 }

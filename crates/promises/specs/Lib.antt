@@ -20,5 +20,6 @@ pub mod MergeExamples
 pub mod PinExamples
 pub mod TakeInExamples
 pub mod Examples
+pub mod TakeInTried
 pub mod Tried
 pub mod Promises

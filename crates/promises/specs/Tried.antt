@@ -27,6 +27,7 @@ use Rattle.promises.specs.Demand3.{RunKeeps}
 use Rattle.promises.specs.Entanglement.{ThousandthsKeeps}
 use Rattle.promises.specs.Newick.{Reading, Writing}
 use Rattle.promises.specs.Merge.{TableReading, TableWriting}
+use Rattle.promises.specs.TakeInTried.{TakeInTried}
 use Rattle.promises.specs.Cases.{heldRecordOf, recordOf, case2Freed}
 use Rattle.promises.specs.MergeExamples.{minus, plus, example1}
 
@@ -157,5 +158,7 @@ pub record Tried : Type 0 where
   -- minus and plus exchanged; and nothing written.
   pub signs-exchanged : TableReading 4 example1 nines (refused 0) (5 ∷ 6 ∷ 7 ∷ 1 ∷ 8 ∷ 2 ∷ []) → ⊥
   pub no-rows-written : TableReading 4 example1 nines (refused 0) nines → ⊥
+  -- Those of taking in an order.
+  pub orders-taken-in : TakeInTried
   -- Writing a table of the left as its layout stands, rows 2 and 3 turned over, and not as its rows are given.
   pub turned-over-in-table : (out : List ℤ) → TableWriting (recordOf case2Freed) 1 out asItStands → ⊥
