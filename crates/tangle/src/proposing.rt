@@ -41,9 +41,7 @@ pub extern "C" fn tangle_better_check(
 // whether that is the least; or the refusal, and the buffer as it was.
 #[no_mangle]
 pub extern "C" fn tangle_take_in(s: &[u8], side: u32, xs: &[u16], out: &mut [u8]) -> TangleTakeIn
-    ensures { λ r. ⌜
-        TakesInForC (now (s .entry)) side (now (xs .entry)) (now (out .entry)) r (now (out .exit))
-        ⌝ }
+    ensures { λ r. ⌜ TakesInForC (now (s .entry)) side (now (xs .entry)) (now (out .entry)) r (now (out .exit)) ⌝ }
 {
     let taken = calls_take_in::take_in(s, in_16_bits(side), xs, out);
     TangleTakeIn {
