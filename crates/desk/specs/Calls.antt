@@ -10,11 +10,11 @@ use Rattle.desk_words.specs.Bytes.{bytesIn}
 use Rattle.desk.specs.declared.calls.Call.{Call}
 use Rattle.desk.specs.declared.calls.Call.the-variants.{Check, Order, Count, Pairs, SquaredEntanglement, Thousandths}
 use Rattle.desk.specs.declared.calls.Call.the-variants.{Free, Run, Hands, Better, BetterCheck, Hold, Pack, Unpack}
-use Rattle.desk.specs.declared.calls.Call.the-variants.{NewickRead, NewickWrite, MergeRead, MergeWrite, Pin, NoCall}
+use Rattle.desk.specs.declared.calls.Call.the-variants.{NewickRead, NewickWrite, MergeRead, MergeWrite, Pin, TakeIn, NoCall}
 
 -- The names, as bytes: check, order, count, pairs, squared_entanglement, thousandths, free, run,
 -- hands, better, better_check, hold, pack, unpack,
--- newick_read, newick_write, merge_read, merge_write, pin.
+-- newick_read, newick_write, merge_read, merge_write, pin, take_in.
 unfoldable pub names : List (List ℕ)
 names =
     (99 ∷ 104 ∷ 101 ∷ 99 ∷ 107 ∷ []) ∷
@@ -36,12 +36,13 @@ names =
     (109 ∷ 101 ∷ 114 ∷ 103 ∷ 101 ∷ 95 ∷ 114 ∷ 101 ∷ 97 ∷ 100 ∷ []) ∷
     (109 ∷ 101 ∷ 114 ∷ 103 ∷ 101 ∷ 95 ∷ 119 ∷ 114 ∷ 105 ∷ 116 ∷ 101 ∷ []) ∷
     (112 ∷ 105 ∷ 110 ∷ []) ∷
+    (116 ∷ 97 ∷ 107 ∷ 101 ∷ 95 ∷ 105 ∷ 110 ∷ []) ∷
     []
 
 -- The calls in the order of their names.
 unfoldable pub calls : List Call
 calls = Check ∷ Order ∷ Count ∷ Pairs ∷ SquaredEntanglement ∷ Thousandths ∷ Free ∷ Run ∷
-    Hands ∷ Better ∷ BetterCheck ∷ Hold ∷ Pack ∷ Unpack ∷ NewickRead ∷ NewickWrite ∷ MergeRead ∷ MergeWrite ∷ Pin ∷ []
+    Hands ∷ Better ∷ BetterCheck ∷ Hold ∷ Pack ∷ Unpack ∷ NewickRead ∷ NewickWrite ∷ MergeRead ∷ MergeWrite ∷ Pin ∷ TakeIn ∷ []
 
 -- The call of a name.
 unfoldable pub callNamed : List ℕ → Call
@@ -68,6 +69,7 @@ wordsOf NewickWrite = 4
 wordsOf MergeRead = 4
 wordsOf MergeWrite = 4
 wordsOf Pin = 5
+wordsOf TakeIn = 5
 wordsOf NoCall = 0
 
 -- Which of them says the bytes that it is lent; the name, number 0, where it is lent none.
@@ -91,6 +93,7 @@ lentBy NewickWrite = 1
 lentBy MergeRead = 0
 lentBy MergeWrite = 1
 lentBy Pin = 1
+lentBy TakeIn = 1
 lentBy NoCall = 1
 
 -- The bytes that a line says its call is lent.

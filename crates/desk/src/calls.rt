@@ -23,6 +23,7 @@ pub enum Call {
     MergeRead,
     MergeWrite,
     Pin,
+    TakeIn,
     NoCall,
 }
 
@@ -32,7 +33,7 @@ pub fn named(name: &[u8]) -> Call
 {
     let names =
         b"check order count pairs squared_entanglement thousandths free run hands better better_check hold pack unpack \
-          newick_read newick_write merge_read merge_write pin";
+          newick_read newick_write merge_read merge_write pin take_in";
     match place(names, name) {
         0 => Call::Check,
         1 => Call::Order,
@@ -53,6 +54,7 @@ pub fn named(name: &[u8]) -> Call
         16 => Call::MergeRead,
         17 => Call::MergeWrite,
         18 => Call::Pin,
+        19 => Call::TakeIn,
         _ => Call::NoCall,
     }
 }
@@ -81,6 +83,7 @@ pub fn words(call: Call) -> usize
         Call::MergeRead => 4,
         Call::MergeWrite => 4,
         Call::Pin => 5,
+        Call::TakeIn => 5,
         Call::NoCall => 0,
     }
 }

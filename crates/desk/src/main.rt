@@ -40,6 +40,8 @@ fn show(call: Call, line: &[u8], s: &[u8], xs: &mut [u16]) {
 }
 
 // Makes any call, on the bytes that it is lent: its record, its text, or the place that it packs a record into.
+// Taking in changes none of them and stands here for the stack's sake: with it `show` is compiled as a function of its
+// own, whose lists come on top of those here.
 fn make(call: Call, line: &[u8], s: &mut [u8], xs: &mut [u16]) {
     match call {
         Call::Free => changing::free(line, s),
@@ -50,6 +52,7 @@ fn make(call: Call, line: &[u8], s: &mut [u8], xs: &mut [u16]) {
         Call::Pack => desk_parts::pack(line, s, xs),
         Call::MergeRead => desk_merge::merge_read(line, xs),
         Call::MergeWrite => desk_merge::merge_write(line, s),
+        Call::TakeIn => desk_take_in::take_in(line, s, xs),
         _ => show(call, line, s, xs),
     }
 }

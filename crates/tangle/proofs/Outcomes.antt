@@ -34,6 +34,9 @@ outcomes-for-c = record {
       (alike (λ _ _ p q. equal-to-one (p .answers) (q .answers)) g h, equal-to-one (g .called .afterwards) (h .called .afterwards));
   better = λ s side first second a b. alike (λ _ _ p q. equal-to-one (p .answers) (q .answers));
   better-check = λ s side first second a b. alike (λ _ _ p q. equal-to-one (p .answers) (q .answers));
+  take-in =
+      λ s side xs out a b x y g h.
+      (alike (λ _ _ p q. equal-to-one (p .answers) (q .answers)) g h, equal-to-one (g .called .afterwards) (h .called .afterwards));
   hold =
       λ s letter a b x y g h.
       (alike (λ _ _ p q. equal-to-one (p .answers) (q .answers)) g h, equal-to-one (g .called .afterwards) (h .called .afterwards));

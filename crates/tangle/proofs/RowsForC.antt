@@ -18,6 +18,7 @@ use Rattle.calls_turns.proofs.Turns.{free-own, run-own}
 use Rattle.calls_hands.proofs.HandLists.{hands-own}
 use Rattle.calls_pins.proofs.Pinned.{pin-own}
 use Rattle.calls_better.proofs.Compared.{compare-own}
+use Rattle.calls_take_in.proofs.Taken.{take-in-own}
 use Rattle.calls_newick.proofs.Outcomes.{write-own}
 use Rattle.calls_merge.proofs.SideWritten.{merge-own}
 use Rattle.tangle.specs.declared.answers.TangleRefusal.{TangleRefusal}
@@ -74,6 +75,10 @@ rows-for-c = record {
       in-form (λ x. x .refusal) (λ x. x .row)
       (λ a p. tells-row s (compare-own s side first second refl) (ap (λ c. c .refusal) (p .answers))) g;
   better-check = λ s side first second answer g. alone (λ a p. tells-row s (compare-own s side first second refl) (p .answers)) g;
+  take-in =
+      λ s side xs out answer out′ g.
+      in-form (λ x. x .refusal) (λ x. x .row)
+      (λ a p. tells-row s (take-in-own s side xs out refl) (ap (λ c. c .refusal) (p .answers))) g;
   hold = λ s letter answer s′ g. alone (λ a p. tells-row s (set-hold-own s letter refl) (p .answers)) g;
   pin = λ s side row pin answer s′ g. alone (λ a p. tells-row s (pin-own s side row refl) (p .answers)) g;
   pack = λ P out answer out′ g. alone (λ a p. tells-row-in P (pack-own P out) (p .answers)) g;

@@ -31,6 +31,9 @@ use Rattle.calls_pins.proofs.Pinned.{pinning-13, pinning-record, pinning-15}
 use Rattle.calls_better.specs.declared.answers.Compared.{Compared}
 use Rattle.calls_better.specs.Calls.{betterWhich, Compares, BetterChecks}
 use Rattle.calls_better.proofs.Compared.{comparing-13}
+use Rattle.calls_take_in.specs.declared.answers.TakenIn.{TakenIn}
+use Rattle.calls_take_in.specs.Calls.{TakesIn}
+use Rattle.calls_take_in.proofs.Taken.{taking-13}
 use Rattle.calls_newick.specs.declared.answers.NewickWritten.{NewickWritten}
 use Rattle.calls_newick.specs.Calls.{NewickWrites}
 use Rattle.calls_newick.proofs.Outcomes.{writing-13}
@@ -92,6 +95,12 @@ module _ {side k : ℕ} (w : Narrowed 65536 side k) where
       let z = comparing-13 s 0 first second zero-no-side in
       let e = comparing-13 s side first second no in
       record { answers = p .answers ∙ ap (toldOf s) (sym z ∙ e) })
+
+  pub take-in-wide : {s xs out out′ : List ℕ} {a : TakenIn} → TakesIn s k xs out a out′ → TakesIn s side xs out a out′
+  take-in-wide {s} {xs} {out} {out′} {a} = by-side (λ x. TakesIn s x xs out a out′) (λ no p.
+      let z = taking-13 s 0 xs out zero-no-side in
+      let e = taking-13 s side xs out no in
+      record { answers = rw (← e) (rw (← z) at (p .answers)); afterwards = rw (← e) (rw (← z) at (p .afterwards)) })
 
   pub newick-write-wide : {s out out′ : List ℕ} {a : NewickWritten} → NewickWrites s k out a out′ → NewickWrites s side out a out′
   newick-write-wide {s} {out} {out′} {a} = by-side (λ x. NewickWrites s x out a out′) (λ no p.

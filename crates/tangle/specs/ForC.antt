@@ -27,6 +27,8 @@ use Rattle.calls_hands.specs.Calls.{Hands}
 use Rattle.calls_pins.specs.Calls.{Pins}
 use Rattle.calls_better.specs.declared.answers.Compared.{Compared}
 use Rattle.calls_better.specs.Calls.{Compares, BetterChecks}
+use Rattle.calls_take_in.specs.declared.answers.TakenIn.{TakenIn}
+use Rattle.calls_take_in.specs.Calls.{TakesIn}
 use Rattle.calls_newick.specs.declared.answers.NewickRead.{NewickRead}
 use Rattle.calls_newick.specs.declared.answers.NewickWritten.{NewickWritten}
 use Rattle.calls_newick.specs.Calls.{NewickReads, NewickWrites}
@@ -38,6 +40,7 @@ use Rattle.tangle.specs.declared.answers.TangleThousandths.{TangleThousa
 use Rattle.tangle.specs.declared.answers.TangleFree.{TangleFree}
 use Rattle.tangle.specs.declared.answers.TangleRun.{TangleRun}
 use Rattle.tangle.specs.declared.answers.TangleBetter.{TangleBetter}
+use Rattle.tangle.specs.declared.answers.TangleTakeIn.{TangleTakeIn}
 use Rattle.tangle.specs.declared.answers.TangleUnpack.{TangleUnpack}
 use Rattle.tangle.specs.declared.answers.TangleNewickRead.{TangleNewickRead}
 use Rattle.tangle.specs.declared.answers.TangleNewickWrite.{TangleNewickWrite}
@@ -147,6 +150,14 @@ betterForC a = record { refusal = a .refusal .number; row = a .refusal .row; whi
 
 abbrev pub ComparesForC : List ℕ → ℕ → List ℕ → List ℕ → TangleBetter → Type 0
 ComparesForC s side first second answer = Gives (Compares s side first second) betterForC answer
+
+-- ---- taking in an order
+
+abbrev pub takeInForC : TakenIn → TangleTakeIn
+takeInForC a = record { refusal = a .refusal .number; row = a .refusal .row; count = a .count; least = a .least }
+
+abbrev pub TakesInForC : List ℕ → ℕ → List ℕ → List ℕ → TangleTakeIn → List ℕ → Type 0
+TakesInForC s side xs out answer out′ = Gives (λ a. TakesIn s side xs out a out′) takeInForC answer
 
 -- ---- unpack
 

@@ -8,7 +8,7 @@ use Rattle.record_fields.specs.Fixes.{Fixes, FixesBoth}
 use Rattle.calls_hands.specs.Refusals.{Hand}
 use Rattle.tangle.specs.declared.answers.TangleUnpack.{TangleUnpack}
 use Rattle.tangle.specs.ForC.{ChecksForC, OrdersForC, SetsHoldForC, PinsForC, HandsForC, BetterChecksForC, PacksForC, CountsForC}
-use Rattle.tangle.specs.ForC.{SquaredEntanglesForC, TellsThousandthsForC, FreesForC, RunsForC, ComparesForC, UnpacksForC}
+use Rattle.tangle.specs.ForC.{SquaredEntanglesForC, TellsThousandthsForC, FreesForC, RunsForC, ComparesForC, TakesInForC, UnpacksForC}
 use Rattle.tangle.specs.ForC.{NewickReadsForC, NewickWritesForC, MergeReadsForC, MergeWritesForC}
 
 -- What unpacking comes to: its answer, and what is in the five buffers afterwards.
@@ -37,6 +37,7 @@ pub record OutcomesForC : Type 0 where
   pub hands : (s : List ℕ) (hands : List Hand) → FixesBoth (HandsForC s hands)
   pub better : (s : List ℕ) (side : ℕ) (first second : List ℕ) → Fixes (ComparesForC s side first second)
   pub better-check : (s : List ℕ) (side : ℕ) (first second : List ℕ) → Fixes (BetterChecksForC s side first second)
+  pub take-in : (s : List ℕ) (side : ℕ) (xs out : List ℕ) → FixesBoth (TakesInForC s side xs out)
   pub hold : (s : List ℕ) (letter : ℕ) → FixesBoth (SetsHoldForC s letter)
   pub pin : (s : List ℕ) (side row pin : ℕ) → FixesBoth (PinsForC s side row pin)
   pub pack : (P : Parts) (out : List ℕ) → FixesBoth (PacksForC P out)

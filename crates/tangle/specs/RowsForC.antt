@@ -15,10 +15,11 @@ use Rattle.tangle.specs.declared.answers.TangleThousandths.{TangleThousa
 use Rattle.tangle.specs.declared.answers.TangleFree.{TangleFree}
 use Rattle.tangle.specs.declared.answers.TangleRun.{TangleRun}
 use Rattle.tangle.specs.declared.answers.TangleBetter.{TangleBetter}
+use Rattle.tangle.specs.declared.answers.TangleTakeIn.{TangleTakeIn}
 use Rattle.tangle.specs.declared.answers.TangleNewickRead.{TangleNewickRead}
 use Rattle.tangle.specs.declared.answers.TangleNewickWrite.{TangleNewickWrite}
 use Rattle.tangle.specs.ForC.{ChecksForC, OrdersForC, SetsHoldForC, PinsForC, HandsForC, BetterChecksForC, PacksForC, CountsForC}
-use Rattle.tangle.specs.ForC.{SquaredEntanglesForC, TellsThousandthsForC, FreesForC, RunsForC, ComparesForC}
+use Rattle.tangle.specs.ForC.{SquaredEntanglesForC, TellsThousandthsForC, FreesForC, RunsForC, ComparesForC, TakesInForC}
 use Rattle.tangle.specs.ForC.{NewickReadsForC, NewickWritesForC, MergeReadsForC, MergeWritesForC}
 use Rattle.tangle.specs.Outcomes.{UnpackOutcomeForC, UnpacksToForC}
 
@@ -42,6 +43,8 @@ pub record RowsForC : Type 0 where
       SaysRow (parts s) (answer .refusal) (answer .row)
   pub better-check : (s : List ℕ) (side : ℕ) (first second : List ℕ) (answer : TangleRefusal) →
       BetterChecksForC s side first second answer → SaysRow (parts s) (answer .refusal) (answer .row)
+  pub take-in : (s : List ℕ) (side : ℕ) (xs out : List ℕ) (answer : TangleTakeIn) (out′ : List ℕ) →
+      TakesInForC s side xs out answer out′ → SaysRow (parts s) (answer .refusal) (answer .row)
   pub hold : (s : List ℕ) (letter : ℕ) (answer : TangleRefusal) (s′ : List ℕ) → SetsHoldForC s letter answer s′ →
       SaysRow (parts s) (answer .refusal) (answer .row)
   -- The rows are the lists'.

@@ -9,13 +9,13 @@ use Rattle.desk.proofs.calls.Call as declared
 use Rattle.desk.specs.declared.calls.Call.{Call}
 use Rattle.desk.specs.declared.calls.Call.the-variants.{Check, Order, Count, Pairs, SquaredEntanglement, Thousandths}
 use Rattle.desk.specs.declared.calls.Call.the-variants.{Free, Run, Hands, Better, BetterCheck, Hold, Pack, Unpack}
-use Rattle.desk.specs.declared.calls.Call.the-variants.{NewickRead, NewickWrite, MergeRead, MergeWrite, Pin, NoCall}
+use Rattle.desk.specs.declared.calls.Call.the-variants.{NewickRead, NewickWrite, MergeRead, MergeWrite, Pin, TakeIn, NoCall}
 use Rattle.desk.specs.Calls.{lentBy}
 use Rattle.desk.proofs.calls.lent.Statement.{statement}
 use Rattle.desk.proofs.calls.lent.Tie as tie
 
 abbrev others : List ℕ
-others = 0 ∷ 1 ∷ 2 ∷ 3 ∷ 4 ∷ 5 ∷ 6 ∷ 7 ∷ 8 ∷ 9 ∷ 10 ∷ 11 ∷ 13 ∷ 14 ∷ 15 ∷ 17 ∷ 18 ∷ 19 ∷ []
+others = 0 ∷ 1 ∷ 2 ∷ 3 ∷ 4 ∷ 5 ∷ 6 ∷ 7 ∷ 8 ∷ 9 ∷ 10 ∷ 11 ∷ 13 ∷ 14 ∷ 15 ∷ 17 ∷ 18 ∷ 19 ∷ 20 ∷ []
 
 others-are-lent : (k : Call) → OneOf others (tagOf declared.the-type k) → 1 ≡ lentBy k
 unfolding lentBy
@@ -38,6 +38,7 @@ others-are-lent NewickWrite h = refl
 others-are-lent MergeRead h = absurd (miss others 16 tt h)
 others-are-lent MergeWrite h = refl
 others-are-lent Pin h = refl
+others-are-lent TakeIn h = refl
 others-are-lent NoCall h = refl
 
 enum-told : tie.Need-enum-told

@@ -104,9 +104,13 @@ returns-19 c = at-place 18 _ (sym (c .before .place .ensures) ∙ c .match .keys
 
 returns-20 : tie.Need-returns-20
 unfolding names pieces calls
-returns-20 c =
+returns-20 c = at-place 19 _ (sym (c .before .place .ensures) ∙ c .match .keys20)
+
+returns-21 : tie.Need-returns-21
+unfolding names pieces calls
+returns-21 c =
     let k = c .before .place .result in
-    sym (List·getD-eq-default calls NoCall {n = k} (past k 19 (c .match .rest))) ∙ at-place k _ (sym (c .before .place .ensures))
+    sym (List·getD-eq-default calls NoCall {n = k} (past k 20 (c .match .rest))) ∙ at-place k _ (sym (c .before .place .ensures))
 
 pub named-spec : {M : Type 1} → statement M
 named-spec =
@@ -132,4 +136,5 @@ named-spec =
     returns-17
     returns-18
     returns-19
-    returns-20)
+    returns-20
+    returns-21)

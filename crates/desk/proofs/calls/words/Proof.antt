@@ -64,6 +64,9 @@ enum-told-19 c = search needs
 enum-told-20 : tie.Need-enum-told-20
 enum-told-20 c = search needs
 
+enum-told-21 : tie.Need-enum-told-21
+enum-told-21 c = search needs
+
 returns : tie.Need-returns
 unfolding wordsOf
 returns c = rw (c .enum-told .given .1)
@@ -144,6 +147,10 @@ returns-20 : tie.Need-returns-20
 unfolding wordsOf
 returns-20 c = rw (c .enum-told20 .given .1)
 
+returns-21 : tie.Need-returns-21
+unfolding wordsOf
+returns-21 c = rw (c .enum-told21 .given .1)
+
 pub words-spec : {M : Type 1} → statement M
 words-spec =
     tie.close
@@ -168,6 +175,7 @@ words-spec =
     enum-told-18
     enum-told-19
     enum-told-20
+    enum-told-21
     returns
     returns-2
     returns-3
@@ -187,4 +195,5 @@ words-spec =
     returns-17
     returns-18
     returns-19
-    returns-20)
+    returns-20
+    returns-21)
