@@ -157,7 +157,7 @@ module _ (s : List ℕ) (side : ℕ) (xs out : List ℕ) where
       let room = taking-good none .room in
       let h = rw made at weighed in
       record {
-        answers = rw (t ∙ told-none (parts s) none, none, ← h .counted, ← h .freed, l) refl;
+        answers = rw (t ∙ told-none (parts s) none, none, l, h .counted, h .freed) refl;
         afterwards =
             w ∙ ap (sets out 0) made
             ∙ sets-front out part (omega (arith, length-taken s y xs))

@@ -3,7 +3,7 @@
 ghost use mathlib.Core.Path.{_≡_};
 ghost use mathlib.Core.Bool.{not, _&&_};
 ghost use lib.ListN.{length};
-ghost use Rattle.tanglegram.specs.Order.{againstPins, mayChange, pinnedAs, turnedOtherwise};
+ghost use Rattle.tanglegram.specs.Order.{againstPins, mayChange, pinnedAs, turnedOtherwise, withPin};
 ghost use Rattle.work_matching.specs.Match.{PinsKept};
 use work_trees::is_turned;
 use work_trees::may_change;
@@ -37,6 +37,13 @@ fn against_pins(pins: &[u8], lay: &[u8]) -> bool
     false
 }
 
+// The byte x, pinned exactly if p is.
+fn pinned_like(p: u8, x: u8) -> u8
+    ensures { λ r. ⌜ r ≡ withPin (not (mayChange p)) x ⌝ }
+{
+    with_pin(!may_change(p), x)
+}
+
 // Pins each row of `lay` that is pinned in `pins`, and unpins the others; each is turned as it was.
 fn pin_as(pins: &[u8], lay: &mut [u8])
     requires { ⌜ length (now pins) ≡ length (now lay) ⌝ }
@@ -44,7 +51,7 @@ fn pin_as(pins: &[u8], lay: &mut [u8])
 {
     let mut i = 0;
     while i < lay.len() {
-        lay[i] = with_pin(!may_change(pins[i]), lay[i]);
+        lay[i] = pinned_like(pins[i], lay[i]);
         i += 1;
     }
 }

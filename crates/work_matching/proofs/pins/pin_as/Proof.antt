@@ -1,13 +1,12 @@
 -- `pin_as`: the loop's invariant is that the rows before row i + 1 are pinned as asked, and those from there on are to be.
 use Prim.Native.Nat.{_-_, _≤_}
-use mathlib.Core.Path.{_≡_, refl, sym, ap, _∙_}
-use mathlib.Core.Bool.{not}
+use mathlib.Core.Path.{_≡_, refl, sym, _∙_}
 use mathlib.Core.List.{_++_}
 use native.Mathlib.Omega.{arith}
-use borrow.Author.Needs.{needs}
-use lib.ListN.{length, getD, take, drop, length-set}
-use Rattle.tanglegram.specs.Order.{pinnedAs, withPin}
+use lib.ListN.{length, take, drop, length-set}
+use Rattle.tanglegram.specs.Order.{pinnedAs}
 use Rattle.work_matching.proofs.RowPins.{pinned-next, pinned-all}
+use borrow.Author.Needs.{needs}
 use Rattle.work_matching.proofs.pins.pin_as.Statement.{statement}
 use Rattle.work_matching.proofs.pins.pin_as.Tie as tie
 
@@ -20,17 +19,14 @@ abbrev μ-loop : tie.MeasureT-loop
 loop-holds : tie.Need-loop-holds Inv-loop μ-loop
 loop-holds c = (omega arith, refl, refl)
 
-shared-slice-read-may-change : tie.Need-shared-slice-read-may-change Inv-loop μ-loop
-shared-slice-read-may-change c = search needs
+shared-slice-read-pinned-like : tie.Need-shared-slice-read-pinned-like Inv-loop μ-loop
+shared-slice-read-pinned-like c = search needs
 
-may-change-requires : tie.Need-may-change-requires Inv-loop μ-loop
-may-change-requires c κs = search needs
+slice-read-pinned-like : tie.Need-slice-read-pinned-like Inv-loop μ-loop
+slice-read-pinned-like c = search needs
 
-slice-read-with-pin : tie.Need-slice-read-with-pin Inv-loop μ-loop
-slice-read-with-pin c = search needs
-
-with-pin-requires : tie.Need-with-pin-requires Inv-loop μ-loop
-with-pin-requires c κs = search needs
+pinned-like-requires : tie.Need-pinned-like-requires Inv-loop μ-loop
+pinned-like-requires c κs = search needs
 
 slice-write-lay : tie.Need-slice-write-lay Inv-loop μ-loop
 slice-write-lay c = search needs
@@ -43,11 +39,10 @@ loop-less c = search needs
 
 loop-again : tie.Need-loop-again Inv-loop μ-loop
 loop-again c =
-    let l = c .before .before .before .before .before in
+    let l = c .before .before .before .before in
     let s = l .before .before .before .args in
-    let x = getD (l .loop .lay) (l .loop .i) 0 in
-    let made = c .with-pin .ensures ∙ ap (λ b. withPin (not b) x) (c .before .before .may-change .ensures) in
-    let next = pinned-next (s .pins .now) (l .loop .lay) (l .loop .i) (omega arith) (omega arith) (c .with-pin .result) made in
+    let made = c .pinned-like .ensures in
+    let next = pinned-next (s .pins .now) (l .loop .lay) (l .loop .i) (omega arith) (omega arith) (c .pinned-like .result) made in
     (omega arith, simp length-set (l .loop .inv .1), l .loop .inv .2 ∙ next)
 
 same-length : tie.Need-same-length Inv-loop μ-loop
@@ -66,10 +61,9 @@ pin-as-spec =
     Inv-loop
     μ-loop
     loop-holds
-    shared-slice-read-may-change
-    may-change-requires
-    slice-read-with-pin
-    with-pin-requires
+    shared-slice-read-pinned-like
+    slice-read-pinned-like
+    pinned-like-requires
     slice-write-lay
     add-i
     loop-less
