@@ -1,14 +1,13 @@
 -- The steps of taking in an order: from what each function found to what it tells.
 use Prim.Native.Nat.{ℕ, zero, suc, _-_, _≤_}
 use mathlib.Core.Path.{_≡_, refl, sym, ap, _∙_}
-use mathlib.Core.Bool.{Bool, true, false, not, cond}
+use mathlib.Core.Bool.{Bool, true, false, not}
 use mathlib.Core.List.{List, _∷_}
 use native.Mathlib.Omega.{arith}
 use borrow.Author.Tests.{le-leb}
-use lib.Dec.{leb}
 use lib.ListN.{length, take, replicate}
-use Rattle.tanglegram.specs.Order.{reading, againstPins, pinnedAs}
-use Rattle.tanglegram.specs.Run.{Side, left, right}
+use Rattle.tanglegram.specs.Order.{againstPins}
+use Rattle.tanglegram.specs.Run.{Side}
 use Rattle.tanglegram.specs.Table.{Layouts, layout}
 use Rattle.work_matching.specs.Match.{PinsKept}
 use Rattle.work_linked_trees.specs.Memory.{layoutsFrom}

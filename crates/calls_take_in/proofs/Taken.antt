@@ -1,13 +1,13 @@
 -- Taking in an order: its refusals test by test, and from what the call found to its statement.
 use Prim.Native.Nat.{ℕ, _-_, _≤_, _<_}
-use mathlib.Core.Path.{_≡_, refl, sym, ap, ap₂, _∙_}
+use mathlib.Core.Path.{_≡_, refl, sym, ap, _∙_}
 use mathlib.Core.Logic.{_≢_}
 use mathlib.Core.Bool.{Bool, true, false, not}
 use mathlib.Core.List.{List, _++_}
 use native.Mathlib.Omega.{arith}
 use borrow.Author.Tests.{lt-ltb, le-ltb, ltb-false, ne-eqb}
 use lib.Dec.{leb, ltb, lit≤}
-use lib.ListN.{length, take, drop, length-take}
+use lib.ListN.{length, take}
 use lib.Seq.{sets, take-at}
 use Rattle.tanglegram.specs.Lists.{bit}
 use Rattle.tanglegram.specs.Order.{againstPins}
@@ -22,11 +22,11 @@ use Rattle.record_fields.specs.Told.{toldOf, OwnRow}
 use Rattle.record_fields.specs.Meaning.{tableOf, layoutsOf}
 use Rattle.record_fields.proofs.Acceptance.{else-first, none-both}
 use Rattle.record_fields.proofs.Heading.{none-first, not-no}
-use Rattle.record_fields.proofs.Refused.{lent-refused, lent-accepted, zero-refused, zero-accepted}
+use Rattle.record_fields.proofs.Refused.{lent-refused, lent-accepted}
 use Rattle.record_fields.proofs.Stores.{sets-front}
 use Rattle.record_fields.proofs.Told.{told-none, alone-when, alone-0, own-when, own-then}
 use Rattle.record_arrays.specs.Sides.{isSide, sideOf}
-use Rattle.record_orders.specs.Proposed.{isOrder, shownLayout}
+use Rattle.record_orders.specs.Proposed.{isOrder}
 use Rattle.record_orders.proofs.Proposals.{length-shown}
 use Rattle.calls_take_in.specs.Refusals.{shownOn, takeInRefusal}
 use Rattle.calls_take_in.specs.Calls.{takenBytes, TakesIn}

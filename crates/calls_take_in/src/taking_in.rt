@@ -100,9 +100,9 @@ fn at_most(a: u32, b: u32) -> u32
     if a <= b { 1 } else { 0 }
 }
 
-// Takes in the first n entries of xs as the order of a side of any bytes: the layout bytes that give it, pins kept, into
-// a buffer's first places; the count with them, and whether it is the least for that side. Or the refusal, and the
-// buffer as it was.
+// Takes in the first n entries of xs as the order of a side of any bytes: the layout bytes that give it, pins kept,
+// into a buffer's first places; the count with them, and whether it is the least for that side. Or the refusal, and
+// the buffer as it was.
 pub fn take_in(s: &[u8], side: u16, xs: &[u16], out: &mut [u8]) -> TakenIn
     ensures { λ r. ⌜ TakesIn (now (s .entry)) side (now (xs .entry)) (now (out .entry)) r (now (out .exit)) ⌝ }
 {

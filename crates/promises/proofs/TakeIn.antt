@@ -1,16 +1,15 @@
 -- Taking in an order, from what is proved of the call: the bytes that are answered, the count, and least.
-use Prim.Native.Nat.{ℕ, zero, suc, pred, _-_, _≤_, _<_}
-use mathlib.Core.Path.{_≡_, refl, sym, ap, ap₂, _∙_, subst}
+use Prim.Native.Nat.{ℕ, zero, suc, pred, _-_, _≤_}
+use mathlib.Core.Path.{_≡_, refl, sym, ap, ap₂, _∙_}
 use mathlib.Core.Logic.{_≢_, _↔_, _⊎_, inl, inr}
 use mathlib.Core.Bool.{Bool, true, false, not, false≢true}
 use mathlib.Core.List.{List, _++_, List·Permᴰ·trans}
 use native.Mathlib.Omega.{arith}
 use borrow.Author.Tests.{le-leb, leb-true, eq-eqb}
-use lib.Dec.{leb}
 use lib.ListN.{length, take, drop, length-take}
-use lib.Seq.{length-take-le, take-at, drop-at}
+use lib.Seq.{take-at, drop-at}
 use Rattle.tanglegram.specs.Lists.{Each, bit}
-use Rattle.tanglegram.specs.Order.{turned, mayChange, byteOf, byte, order, Choice, againstPins}
+use Rattle.tanglegram.specs.Order.{mayChange, byteOf, byte, order, Choice, againstPins}
 use Rattle.tanglegram.specs.Run.{Side, left, right}
 use Rattle.tanglegram.specs.Table.{layout, put, crossings, free, Fits}
 use Rattle.tanglegram.proofs.Bytes.{byteOf-read}
@@ -31,7 +30,6 @@ use Rattle.record_fields.proofs.Tests.{layout-small, small-layout}
 use Rattle.record.specs.Calls.{SetsHold}
 use Rattle.record.proofs.Outcomes.{equal-to-one}
 use Rattle.record_arrays.specs.Sides.{isSide, sideOf}
-use Rattle.record_arrays.specs.Rows.{rowByte}
 use Rattle.record_arrays.specs.Shown.{shownOrder, shownCount}
 use Rattle.record_arrays.proofs.AsItStands.{over-its-leaves, side-leaves, length-part}
 use Rattle.record_arrays.proofs.OneRow.{row-small}
@@ -42,7 +40,7 @@ use Rattle.calls_turns.specs.declared.answers.Freed.{Freed}
 use Rattle.calls_turns.specs.Refusals.{freeRefusal}
 use Rattle.calls_turns.specs.Calls.{freedLayouts, Frees}
 use Rattle.calls_turns.proofs.Turns.{freeing-good}
-use Rattle.calls_turns.proofs.Freed.{freed-table, freed-layouts}
+use Rattle.calls_turns.proofs.Freed.{freed-layouts}
 use Rattle.calls_take_in.specs.declared.answers.TakenIn.{TakenIn}
 use Rattle.calls_take_in.specs.Refusals.{shownOn, takeInRefusal}
 use Rattle.calls_take_in.specs.Calls.{takenBytes, takenLayouts, gainsNothing, TakesIn}
@@ -54,7 +52,7 @@ use Rattle.promises.proofs.Afterwards.{afterwards}
 use Rattle.promises.proofs.Demand2.{demand2}
 use Rattle.promises.proofs.HeldStays.{held-stays}
 use Rattle.promises.proofs.PinOnly.{refusal-most}
-use Rattle.promises.proofs.TakenOrders.{number-told, lay-long, same-long, bytes-give, shown-gives, turns-alike, some-exactly}
+use Rattle.promises.proofs.TakenOrders.{number-told, lay-long, same-long, bytes-give, turns-alike}
 
 -- ---- the number
 
@@ -163,7 +161,8 @@ module _ (s : List ℕ) (a : refusal s ≡ 0) (side : Side) (xs : List ℕ) wher
           )
 
       least : (gainsNothing (tableOf s) side (takenLayouts s side xs) ≡ true) ↔
-          ((any : List ℕ) → Choice lay any → crossings (tableOf s) (takenLayouts s side xs) ≤ crossings (tableOf s) (put side any (layoutsOf s)))
+          ((any : List ℕ) → Choice lay any →
+          crossings (tableOf s) (takenLayouts s side xs) ≤ crossings (tableOf s) (put side any (layoutsOf s)))
       least =
           let T = tableOf s in
           let exactly = least-exactly T (accepted-fair s a) side (layoutsOf s) (accepted-fits s a) bytes long pins choice in
@@ -183,8 +182,9 @@ module _ (s : List ℕ) (side : ℕ) (xs out : List ℕ) {answer : TakenIn} {out
 
   made : answered s out′ ≡ takenBytes s (sideOf side) xs
   made =
+      let bytes = takenBytes s (sideOf side) xs in
       ap (take (sizeOf s - 1)) left-there
-      ∙ take-at (takenBytes s (sideOf side) xs) (drop (length (takenBytes s (sideOf side) xs)) out) (sizeOf s - 1) (length-taken s (sideOf side) xs)
+      ∙ take-at bytes (drop (length bytes) out) (sizeOf s - 1) (length-taken s (sideOf side) xs)
 
   counted : answer .count ≡ crossings (tableOf s) (takenLayouts s (sideOf side) xs)
   counted = ap (λ x. x .count) (t .answers) ∙ sym (zero-accepted (takeInRefusal s side xs out) _ none)
@@ -248,8 +248,8 @@ module _ (s : List ℕ) (side : ℕ) (xs out : List ℕ) {answer : TakenIn} {out
 
 module _ (s : List ℕ) (side : ℕ) (sided : isSide side ≡ true) (a : refusal s ≡ 0) (any : List ℕ) (l : LaidOn s (sideOf side) any)
     (c : Choice (layout (layoutsOf s) (sideOf side)) any) (xs out : List ℕ)
-    (e : order any (tableOf s .tree (sideOf side)) ≡ take (sizeOf s) xs) (room : sizeOf s - 1 ≤ length out) {answer : TakenIn} {out′ : List ℕ}
-    (t : TakesIn s side xs out answer out′) where
+    (e : order any (tableOf s .tree (sideOf side)) ≡ take (sizeOf s) xs) (room : sizeOf s - 1 ≤ length out)
+    {answer : TakenIn} {out′ : List ℕ} (t : TakesIn s side xs out answer out′) where
   enough : sizeOf s ≤ length xs
   enough =
       let n = sizeOf s in
@@ -339,10 +339,11 @@ module _ (s : List ℕ) (side : ℕ) (freed : Freed) (s′ : List ℕ) (f : Free
         AcceptedAs s (freed .after) (layout (layoutsOf s′) (sideOf side)) answer out′ × (answer .least ≡ 1)
     of-it t =
         let y = sideOf side in
-        let h = accepted-as s side sided a there there-laid (free-choice (tableOf s) (accepted-fair s a) y (layoutsOf s) (accepted-fits s a))
-        xs out gives-there room t in
-        let count =
-        h .its-count ∙ ap (crossings (tableOf s)) (put-freed (tableOf s) y (layoutsOf s)) ∙ sym (after s side xs out t (h .accepted) f w) in (
+        let T = tableOf s in
+        let chosen = free-choice T (accepted-fair s a) y (layoutsOf s) (accepted-fits s a) in
+        let h = accepted-as s side sided a there there-laid chosen xs out gives-there room t in
+        let left-count = after s side xs out t (h .accepted) f w in
+        let count = h .its-count ∙ ap (crossings T) (put-freed T y (layoutsOf s)) ∙ sym left-count in (
           record {
             accepted = h .accepted;
             its-count = count;

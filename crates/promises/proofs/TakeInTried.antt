@@ -27,7 +27,7 @@ use Rattle.calls_take_in.specs.Refusals.{takeInRefusal}
 use Rattle.calls_take_in.specs.Calls.{TakesIn}
 use Rattle.promises.specs.TakeIn.{NumberTold, Answered}
 use Rattle.promises.specs.TakeInTried as TakeInTried
-use Rattle.promises.specs.TakeInTried.{free2, pinned2, standing, sorted, fourOnTop, noOrder, three, told}
+use Rattle.promises.specs.TakeInTried.{free2, pinned2, sorted, fourOnTop, noOrder, three, told}
 use Rattle.promises.proofs.TakeIn.{take-in}
 use Rattle.promises.proofs.TakenOrders.{number-told}
 

@@ -1,4 +1,5 @@
--- Which orders are taken in: some layout gives the order and agrees with the pins exactly if both tests of it pass, and the number tells so.
+-- Which orders are taken in: some layout gives the order and agrees with the pins exactly if both tests of it pass, and the number tells
+-- so.
 use Prim.Native.Nat.{ℕ, suc, pred, _-_, _≤_, _<_}
 use mathlib.Core.Path.{_≡_, refl, sym, _∙_}
 use mathlib.Core.Logic.{_↔_, _⊎_, inl, inr}
@@ -81,7 +82,8 @@ module _ (s : List ℕ) (a : refusal s ≡ 0) (side : Side) (xs : List ℕ) wher
           let any = p .0 in
           let h = p .1 in
           let o = is-order-compatible s a side xs .1 (h .enough, rw (h .gives) at (order-compatible any t)) in
-          let agrees : Choice lay shown = λ i m. sym (turns-alike o any (h .gives) (pred i) (pinned-within lay (pred i) m)) ∙ h .agrees i m in
+          let alike = turns-alike o any (h .gives) in
+          let agrees : Choice lay shown = λ i m. sym (alike (pred i) (pinned-within lay (pred i) m)) ∙ h .agrees i m in
           (o, against-choice lay shown same-long .1 agrees)
 
       back : one ≡ true → againstPins lay shown ≡ false → SomePermitted s side xs

@@ -1,8 +1,9 @@
--- The customer, in the seventh request for changes: "Given a record, a side and an order, answer the layout bytes that give this order (pins
--- kept), its count, and whether it is least for that side with the other standing. The order is refused exactly if no layout of that tree
--- gives the order and agrees with its pinned rows; 'least' is said exactly if no permitted choice crosses less. An order left by freeing its
--- side is accepted as least. The record isn't changed, so holds play no part. Refusals: 16, or 23 if the order is compatible but goes against
--- a pin; 23 stands right after 16." For every outcome of the call. That the record is not changed is how it is lent: to be read.
+-- The customer, in the seventh request for changes: "Given a record, a side and an order, answer the layout bytes that give this order
+-- (pins kept), its count, and whether it is least for that side with the other standing. The order is refused exactly if no layout of that
+-- tree gives the order and agrees with its pinned rows; 'least' is said exactly if no permitted choice crosses less. An order left by
+-- freeing its side is accepted as least. The record isn't changed, so holds play no part. Refusals: 16, or 23 if the order is compatible
+-- but goes against a pin; 23 stands right after 16." For every outcome of the call. That the record is not changed is how it is lent: to be
+-- read.
 use Prim.Native.Nat.{ℕ, _-_, _≤_, _<_}
 use mathlib.Core.Path.{_≡_}
 use mathlib.Core.Logic.{_≢_, _↔_, _⊎_}

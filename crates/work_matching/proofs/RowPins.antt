@@ -13,7 +13,8 @@ use Rattle.tanglegram.proofs.Lists.{append-nil}
 module _ (pins lay : List ℕ) (i : ℕ) (p : i < length pins) (h : i < length lay) where
   -- the test at row i + 1, and at those after it
   against-next : againstPins (drop i pins) (drop i lay) ≡
-      (not (mayChange (getD pins i 0)) && turnedOtherwise (getD pins i 0) (getD lay i 0) || againstPins (drop (i + 1) pins) (drop (i + 1) lay))
+      (not (mayChange (getD pins i 0)) && turnedOtherwise (getD pins i 0) (getD lay i 0)
+      || againstPins (drop (i + 1) pins) (drop (i + 1) lay))
   unfolding againstPins
   against-next = rw (add-one i, drop-cons pins i 0 p, drop-cons lay i 0 h) refl
 

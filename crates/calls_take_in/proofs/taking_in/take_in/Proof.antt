@@ -1,6 +1,6 @@
 -- `take_in`: a refused call writes nothing; otherwise the bytes that give the order stand in the buffer's first places, and are weighed.
-use Prim.Native.Nat.{ℕ, _-_, _≤_}
-use mathlib.Core.Path.{_≡_, refl, sym, ap, _∙_}
+use Prim.Native.Nat.{_-_, _≤_}
+use mathlib.Core.Path.{_≡_, sym, ap, _∙_}
 use native.Mathlib.Omega.{arith}
 use lib.ListN.{length, take, length-take}
 use lib.Seq.{length-take-le}
@@ -13,19 +13,24 @@ use borrow.Author.Needs.{needs}
 use Rattle.calls_take_in.proofs.taking_in.take_in.Statement.{statement}
 use Rattle.calls_take_in.proofs.taking_in.take_in.Tie as tie
 
+abbrev startOf : tie.Else1 → tie.Start
+startOf c = c .before .before .before .before .before .before .before .before
+
 -- nothing is refused
-none : (c : tie.Else1) → let a = c .before .before .before .before .before .before .before .before .args in takeInRefusal (a .s .now) (a .side) (a .xs .now) (a .out .now) ≡ 0
+none : (c : tie.Else1) →
+    let a = startOf c .args in
+    takeInRefusal (a .s .now) (a .side) (a .xs .now) (a .out .now) ≡ 0
 none c = sym (c .before .before .taking-number .ensures .told) ∙ c .if1 .left
 
-good : (c : tie.Else1) → let a = c .before .before .before .before .before .before .before .before .args in Good (a .s .now) (a .side) (a .xs .now) (a .out .now)
+good : (c : tie.Else1) → let a = startOf c .args in Good (a .s .now) (a .side) (a .xs .now) (a .out .now)
 good c = taking-good _ _ _ _ (none c)
 
-over : (c : tie.After-size-of) → RecordOver (c .before .before .before .before .before .before .before .before .before .args .s .now) (c .size-of .result)
+over : (c : tie.After-size-of) → RecordOver (startOf (c .before) .args .s .now) (c .size-of .result)
 over c = over-n _ (good (c .before) .record-good) (c .size-of .ensures)
 
 -- the bytes that give the order, and that there are as many as rows
 made : (c : tie.After-size-of) →
-    let a = c .before .before .before .before .before .before .before .before .before .args in
+    let a = startOf (c .before) .args in
     take (c .size-of .result - 1) (c .before .before .before .taking-number .last .1 .1 .1 .1 .0) ≡
     takenBytes (a .s .now) (sideOf (a .side)) (a .xs .now)
 made c =
@@ -34,7 +39,7 @@ made c =
 
 room : (c : tie.After-size-of) → c .size-of .result - 1 ≤ length (c .before .before .before .taking-number .last .1 .1 .1 .1 .0)
 room c =
-    let a = c .before .before .before .before .before .before .before .before .before .args in
+    let a = startOf (c .before) .args in
     let lay = c .before .before .before .taking-number .last .1 .1 .1 .1 .0 in
     let n = c .size-of .result in
     omega

@@ -1,5 +1,5 @@
 -- `taking_number`: each return is the first test of `takeInRefusal` that is met.
-use Prim.Native.Nat.{ℕ, _-_, _≤_}
+use Prim.Native.Nat.{ℕ, _-_}
 use mathlib.Core.Path.{_≡_, sym, ap, _∙_}
 use mathlib.Core.Bool.{true}
 use native.Mathlib.Omega.{arith}
@@ -22,7 +22,8 @@ sided c = sym (c .before .is-side .ensures) ∙ not-false _ (c .if1 .left)
 accepted : (c : tie.Else2) → refusal (c .before .before .before .before .before .before .before .before .args .s .now) ≡ 0
 accepted c = sym (c .before .refusal-number .ensures) ∙ c .if2 .left
 
-over : (c : tie.After-size-of) → RecordOver (c .before .before .before .before .before .before .before .before .before .args .s .now) (c .size-of .result)
+over : (c : tie.After-size-of) →
+    RecordOver (c .before .before .before .before .before .before .before .before .before .args .s .now) (c .size-of .result)
 over c = over-n _ (accepted (c .before)) (c .size-of .ensures)
 
 is-side-requires : tie.Need-is-side-requires
@@ -49,7 +50,10 @@ sub-m : tie.Need-sub-m
 sub-m c = over c .sized .some
 
 slice-relend-prefix-order-number : tie.Need-slice-relend-prefix-order-number
-slice-relend-prefix-order-number c = let z = c .before .before .before .before .before .before .before .before .before in let most = over c .sized .most in omega (arith, ap length (z .pre), length-replicate {A = ℕ} 512 0)
+slice-relend-prefix-order-number c =
+    let z = c .before .before .before .before .before .before .before .before .before in
+    let most = over c .sized .most in
+    omega (arith, ap length (z .pre), length-replicate {A = ℕ} 512 0)
 
 slice-aggregate-order-number : tie.Need-slice-aggregate-order-number
 slice-aggregate-order-number c = sym (length-take-le _ _ (slice-relend-prefix-order-number (c .before)))

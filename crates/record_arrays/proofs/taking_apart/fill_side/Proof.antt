@@ -1,5 +1,4 @@
 -- `fill_side`: the bytes from the layout's place on are the side's layout.
-use mathlib.Core.Path.{ap}
 use native.Mathlib.Omega.{arith}
 use Rattle.record_arrays.specs.Sides.{sideOf}
 use Rattle.record_arrays.proofs.AsItStands.{layout-within, part-layout}

@@ -1,5 +1,4 @@
 -- `lay_out`: the side's rows are its tree's, and the layout that is lent has a byte for each.
-use mathlib.Core.Path.{ap}
 use native.Mathlib.Omega.{arith}
 use Rattle.record_arrays.specs.Sides.{sideOf}
 use Rattle.record_arrays.proofs.AsItStands.{rows-within, filled-size, filled-laid}

@@ -11,7 +11,8 @@ use Rattle.work_matching.proofs.pins.pin_as.Statement.{statement}
 use Rattle.work_matching.proofs.pins.pin_as.Tie as tie
 
 abbrev Inv-loop : tie.InvT-loop
-Inv-loop pins lay₀ i₀ lay i = (i ≤ length lay₀) × (length lay ≡ length lay₀) × (pinnedAs pins lay₀ ≡ take i lay ++ pinnedAs (drop i pins) (drop i lay))
+Inv-loop pins lay₀ i₀ lay i =
+    (i ≤ length lay₀) × (length lay ≡ length lay₀) × (pinnedAs pins lay₀ ≡ take i lay ++ pinnedAs (drop i pins) (drop i lay))
 
 abbrev μ-loop : tie.MeasureT-loop
 μ-loop pins lay₀ i₀ lay i = length lay₀ - i
