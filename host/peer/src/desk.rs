@@ -320,6 +320,20 @@ pub fn lines(input: &[u8]) -> Vec<&[u8]> {
     lines
 }
 
+/// What the tests of calls ask of their answers: the number of each, and all of them in one word.
+#[cfg(test)]
+pub mod answered {
+    pub fn numbers(lines: &[String]) -> Vec<String> {
+        let number =
+            |line: &String| super::answer(line.as_bytes()).split(' ').next().unwrap_or_default().to_string();
+        lines.iter().map(number).collect()
+    }
+
+    pub fn told(lines: &[String]) -> String {
+        numbers(lines).join(",")
+    }
+}
+
 #[cfg(test)]
 mod tests {
     use super::*;
