@@ -9,7 +9,7 @@ use lib.ListN.{length, take, replicate}
 use Rattle.tanglegram.specs.Order.{againstPins}
 use Rattle.tanglegram.specs.Run.{Side}
 use Rattle.tanglegram.specs.Table.{Layouts, layout}
-use Rattle.work_matching.specs.Match.{PinsKept}
+use Rattle.work_matching.specs.Match.{KeepsPins}
 use Rattle.work_linked_trees.specs.Memory.{layoutsFrom}
 use Rattle.record_fields.specs.Meaning.{tableOf, layoutsOf}
 use Rattle.record_arrays.specs.Sides.{sideOf, RecordOver}
@@ -53,7 +53,7 @@ module _ (s : List ℕ) (n : ℕ) (g : RecordOver s n) (side : Side) (xs : List 
       pub read-shown : lay ≡ shown
       read-shown = read .writes ∙ rw (le-leb n (length xs) (order-within s n g side xs is-one), zeros) refl
 
-      module _ {pins lay′ : List ℕ} {kept : Bool} (present : pins ≡ layout (layoutsOf s) side) (keeps : PinsKept pins lay kept lay′) where
+      module _ {pins lay′ : List ℕ} {kept : Bool} (present : pins ≡ layout (layoutsOf s) side) (keeps : KeepsPins pins lay kept lay′) where
         against-kept : againstPins (layout (layoutsOf s) side) shown ≡ not kept
         against-kept = rw (← present, ← read-shown) (not-again (againstPins pins lay) (keeps .tells))
           where

@@ -22,6 +22,6 @@ pub record Matches (T xs lay : List ℕ) (answer : Bool) (after : List ℕ) : Ty
   pub writes : after ≡ reading (orderIn T xs) (treeOf T) lay
 
 -- The answer says whether lay goes with the pins, and if so it was pinned as they are.
-pub record PinsKept (pins lay : List ℕ) (answer : Bool) (after : List ℕ) : Type 0 where
+pub record KeepsPins (pins lay : List ℕ) (answer : Bool) (after : List ℕ) : Type 0 where
   pub tells : answer ≡ not (againstPins pins lay)
   pub writes : after ≡ cond (againstPins pins lay) lay (pinnedAs pins lay)

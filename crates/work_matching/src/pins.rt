@@ -4,7 +4,7 @@ ghost use mathlib.Core.Path.{_≡_};
 ghost use mathlib.Core.Bool.{not, _&&_};
 ghost use lib.ListN.{length};
 ghost use Rattle.tanglegram.specs.Order.{againstPins, mayChange, pinnedAs, turnedOtherwise, withPin};
-ghost use Rattle.work_matching.specs.Match.{PinsKept};
+ghost use Rattle.work_matching.specs.Match.{KeepsPins};
 use work_trees::is_turned;
 use work_trees::may_change;
 use work_trees::with_pin;
@@ -59,7 +59,7 @@ fn pin_as(pins: &[u8], lay: &mut [u8])
 // Whether `lay` turns each row that is pinned in `pins` as it is there. If so, `lay` is pinned as `pins` is.
 pub fn keep_pins(pins: &[u8], lay: &mut [u8]) -> bool
     requires { ⌜ length (now pins) ≡ length (now lay) ⌝ }
-    ensures { λ r. ⌜ PinsKept (now (pins .entry)) (now (lay .entry)) r (now (lay .exit)) ⌝ }
+    ensures { λ r. ⌜ KeepsPins (now (pins .entry)) (now (lay .entry)) r (now (lay .exit)) ⌝ }
 {
     if against_pins(pins, lay) {
         return false;
