@@ -1,0 +1,2 @@
+// to come
+pub fn line(k: usize) -> usize { k }

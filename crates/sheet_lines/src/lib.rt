@@ -1,0 +1,6 @@
+// The sheet of a record, line by line, as text in memory that the caller lends.
+mod asking;
+mod lines;
+mod measures;
+
+pub use asking::line;
