@@ -2,5 +2,7 @@
 mod asking;
 mod lines;
 mod measures;
+mod running;
+mod showing;
 
 pub use asking::line;
