@@ -1,0 +1,39 @@
+-- `put_line`: the first bytes, the numbers and the line feed, one after the other (`line-put`).
+use borrow.Author.Needs.{needs}
+use Rattle.work_text.proofs.Spaced.{room-first, room-numbers, room-feed, line-put}
+use Rattle.work_text.proofs.lines.put_line.Statement.{statement}
+use Rattle.work_text.proofs.lines.put_line.Tie as tie
+
+put-requires : tie.Need-put-requires
+put-requires c κs =
+    let a = c .before .before .before .before .args in
+    room-first (a .first .now) (a .xs .now) (a .out .now) (a .at) (c .before .before .before .before .pre)
+
+put-spaced-requires : tie.Need-put-spaced-requires
+put-spaced-requires c κs =
+    let s = c .before .before .before .before .before .before .before .before in
+    let a = s .args in
+    room-numbers (a .first .now) (a .xs .now) (a .out .now) (a .at) (s .pre) (c .before .before .before .put .ensures)
+
+slice-aggregate-put : tie.Need-slice-aggregate-put
+slice-aggregate-put c = search needs
+
+put-requires-2 : tie.Need-put-requires-2
+put-requires-2 c κs =
+    let p = c .before .before .before .before .before .before .before .before in
+    let s = p .before .before .before .before .before in
+    let a = s .args in
+    room-feed (a .first .now) (a .xs .now) (a .out .now) (a .at) (s .pre) (p .put .ensures) (c .before .before .before .before .put-spaced .ensures)
+
+same-length : tie.Need-same-length
+same-length c = search needs
+
+returns : tie.Need-returns
+returns c =
+    let p = c .before .before .before .before .before .before .before .before .before .before .before in
+    line-put (p .before .before .before .before .before .args .xs .now) (p .put .ensures) (c .before .before .before .before .before .before .before .put-spaced .ensures)
+    (c .before .before .put2 .ensures)
+
+pub put-line-spec : {M : Type 1} → statement M
+put-line-spec =
+    tie.close (tie.spec put-requires put-spaced-requires slice-aggregate-put put-requires-2 same-length returns)
