@@ -1,5 +1,6 @@
 -- What a sheet says of any bytes, line by line: of a record that is accepted five lines as it stands, then a run with the largest
 -- allowance and three lines of that, or why there is no run; of any other bytes why they are refused.
+use Prim.Native.Char.{code}
 use Prim.Native.Nat.{ℕ}
 use mathlib.Core.Path.{_≡_}
 use mathlib.Core.Bool.{Bool, cond}
@@ -9,7 +10,6 @@ use lib.Dec.{eqb}
 use Rattle.tanglegram.specs.Entanglement.{worst}
 use Rattle.tanglegram.specs.Run.{left, right}
 use Rattle.tanglegram.specs.Table.{crossings}
-use Rattle.record_fields.specs.Letters.{letterL, letterR}
 use Rattle.record_fields.specs.Fields.{holdOf, sizeOf, mostTurns}
 use Rattle.record_fields.specs.Meaning.{tableOf, relaid}
 use Rattle.record_fields.specs.Refusals.{refusal}
@@ -38,10 +38,10 @@ afterRun s = cond (isRun s) (relaid s (ranTo s mostTurns .last)) s
 
 -- A side's line, of a record as it stands.
 abbrev pub leftLine : List ℕ → List ℕ
-leftLine s = orderLine letterL (shownOrder s left)
+leftLine s = orderLine (code "L") (shownOrder s left)
 
 abbrev pub rightLine : List ℕ → List ℕ
-rightLine s = orderLine letterR (shownOrder s right)
+rightLine s = orderLine (code "R") (shownOrder s right)
 
 -- The run's first line, or its refusal.
 abbrev pub runLine : List ℕ → List ℕ
