@@ -17,6 +17,7 @@ pub mod Newick
 pub mod Merge
 pub mod TakenOrders
 pub mod TakeIn
+pub mod Sheet
 pub mod Examples
 pub mod TakeInTried
 pub mod Tried

@@ -15,6 +15,7 @@ pub mod HandsTwice
 pub mod Newick
 pub mod Merge
 pub mod TakeIn
+pub mod Sheet
 pub mod Cases
 pub mod MergeExamples
 pub mod PinExamples
