@@ -37,7 +37,7 @@ use Rattle.promises.proofs.Afterwards.{afterwards}
 pub trees-same : (s : List ℕ) → SameTrees s s
 trees-same s = record { same-size = refl; same-trees = λ side. refl; same-links = refl; accepted-again = λ a. a }
 
-keeps-same : (s : List ℕ) → Keeps s s
+pub keeps-same : (s : List ℕ) → Keeps s s
 keeps-same s = record {
   same-length = refl;
   same-front = refl;

@@ -17,6 +17,8 @@ pub mod Newick
 pub mod Merge
 pub mod TakenOrders
 pub mod TakeIn
+pub mod SheetLines
+pub mod SheetLength
 pub mod Sheet
 pub mod Examples
 pub mod TakeInTried

@@ -80,6 +80,9 @@ pins-kept s s′ trees p m = record {
   );
 }
 
+pub pins-same : (s : List ℕ) → PinsKept s s
+pins-same s = pins-kept s s (λ side. refl) (λ side row h. refl) (λ side row. refl)
+
 -- a record with new layouts that keep them, or one that is as it was
 either : (s s′ : List ℕ) (new : Layouts) (k : ℕ) → s′ ≡ cond (accepted k) (relaid s new) s →
     (k ≡ 0 → (a : refusal s ≡ 0) × Fits (accepted-fair s a) new × Stay (layoutsOf s) new × Marks (layoutsOf s) new) → PinsKept s s′
