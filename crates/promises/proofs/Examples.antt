@@ -21,6 +21,7 @@ use Rattle.record_fields.specs.declared.refusal.Refusal.{Refusal}
 use Rattle.record_fields.specs.Fields.{sizeOf, numbers, split, partsOf, packed}
 use Rattle.record_fields.specs.Refusals.{all, isMark, isHold, noSize, breaksRule, oneToOne, isLayout, contentsRefusal, headingRefusal}
 use Rattle.record_fields.specs.Refusals.{refusal}
+use Rattle.record_fields.specs.Meaning.{relaid}
 use Rattle.record_fields.specs.Told.{rowFor, toldOf}
 use Rattle.record_arrays.specs.Sides.{isSide, holds}
 use Rattle.record_arrays.specs.Rows.{noRow}
@@ -42,6 +43,9 @@ use Rattle.calls_newick.specs.Refusals.{keepsGrammar, said, isNumbered, newickR
 use Rattle.merge.specs.Entries.{namedBy, entryFor, namesNone}
 use Rattle.merge.specs.Tables.{rowsIn, tableFor, any, someNone, amongEntries, twice}
 use Rattle.calls_merge.specs.Refusals.{mergeReadRefusal, writtenTable}
+use Rattle.work_text.specs.Decimal.{digitsWithin, decimal}
+use Rattle.work_text.specs.Lines.{spaced, line}
+use Rattle.calls_sheet.specs.Sheet.{afterRun, sheetText}
 use Rattle.promises.specs.Cases.{recordOf}
 use Rattle.promises.specs.Examples.{thousandthsTold, AllTold, Examples}
 
@@ -97,6 +101,7 @@ unfolding order write leaves deep object count place range over across pairs cho
     namedBy entryFor namesNone rowsIn tableFor any someNone amongEntries twice mergeReadRefusal writtenTable
     noRow pinRefusal handRefusal entriesRefusal handsRefusal handed
     uppermost reading pinnedAs againstPins same isOrder takeInRefusal
+    digitsWithin decimal spaced line relaid afterRun sheetText
 examples = record {
   table = refl;
   in-thousandths = all-told list.examples refl;
@@ -107,4 +112,5 @@ examples = record {
   pins = refl;
   hands = refl;
   orders-taken-in = refl;
+  sheets = refl;
 }

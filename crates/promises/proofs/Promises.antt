@@ -8,6 +8,7 @@ use Rattle.promises.proofs.HandsTwice.{hands-twice}
 use Rattle.promises.proofs.Newick.{newick}
 use Rattle.promises.proofs.Merge.{merge}
 use Rattle.promises.proofs.TakeIn.{take-in}
+use Rattle.promises.proofs.Sheet.{sheet}
 use Rattle.promises.proofs.Examples.{examples}
 use Rattle.promises.proofs.Tried.{tried}
 
@@ -21,6 +22,7 @@ promises = record {
   newick = newick;
   merge = merge;
   take-in = take-in;
+  sheet = sheet;
   examples = examples;
   tried = tried;
 }

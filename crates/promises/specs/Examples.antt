@@ -1,6 +1,6 @@
 -- The list of examples (`tanglegram`), over the calls' definitions: each line's case is a record of bytes with hold `N`, and what the
 -- calls answer of it is what the line shows; those of example 9 are refused. And texts and merge tables, read into a buffer, and written
--- of a case's side; rows pinned, and hand lists over pinned rows; and orders taken in.
+-- of a case's side; rows pinned, and hand lists over pinned rows; orders taken in; and sheets.
 use Prim.Native.Nat.{ℕ, suc}
 use mathlib.Core.Path.{_≡_}
 use mathlib.Core.Bool.{Bool, true, false, cond, _&&_}
@@ -32,6 +32,7 @@ use Rattle.promises.specs.Cases.{recordOf, case2Freed}
 use Rattle.promises.specs.MergeExamples.{TableLine, tableExamples, tablesWritten}
 use Rattle.promises.specs.PinExamples.{pinTo, pinExamples, handTo, handExamples}
 use Rattle.promises.specs.TakeInExamples.{takenTo, takenExamples}
+use Rattle.promises.specs.SheetExamples.{sheetsAre, sheetsTold}
 
 -- What the calls' definitions say of a case's record: the refusals, with their rows, of reading it, of freeing its left and of running it;
 -- then what a line shows, which is nothing but the number and the row where it is refused.
@@ -189,3 +190,4 @@ pub record Examples : Type 0 where
   pub pins : map pinTo pinExamples ≡ map (λ l. l .comes-to) pinExamples
   pub hands : map handTo handExamples ≡ map (λ l. l .comes-to) handExamples
   pub orders-taken-in : map takenTo takenExamples ≡ map (λ l. l .comes-to) takenExamples
+  pub sheets : sheetsAre ≡ sheetsTold

@@ -20,6 +20,7 @@ pub mod Cases
 pub mod MergeExamples
 pub mod PinExamples
 pub mod TakeInExamples
+pub mod SheetExamples
 pub mod Examples
 pub mod TakeInTried
 pub mod Tried

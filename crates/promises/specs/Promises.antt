@@ -7,6 +7,7 @@ use Rattle.promises.specs.HandsTwice.{HandsTwice}
 use Rattle.promises.specs.Newick.{Newick}
 use Rattle.promises.specs.Merge.{Merge}
 use Rattle.promises.specs.TakeIn.{TakeIn}
+use Rattle.promises.specs.Sheet.{SheetPromise}
 use Rattle.promises.specs.Examples.{Examples}
 use Rattle.promises.specs.Tried.{Tried}
 
@@ -29,6 +30,8 @@ pub record Promises : Type 0 where
   -- An order is taken in exactly if a permitted layout gives it; the bytes answered are the only ones, and least is said exactly if no
   -- permitted choice crosses less.
   pub take-in : TakeIn
+  -- The sheet that is printed says this and nothing else: its lines in their order, for any bytes.
+  pub sheet : SheetPromise
   -- The examples come out as the customer has them.
   pub examples : Examples
   -- Wrong outcomes are excluded.
