@@ -51,7 +51,7 @@ use Rattle.promises.specs.Examples.{thousandthsTold, AllTold, Examples}
 
 -- ---- thousandths: what an answer's numbers must be is a test
 
-abbrev fits : List ℕ → InThousandths → Bool
+abbrev pub fits : List ℕ → InThousandths → Bool
 fits s (in-thousandths.Ratio k) =
     eqb (refusal s) 0
     && (leb 2 (sizeOf s)
@@ -61,7 +61,7 @@ fits s in-thousandths.NoRatio = eqb (refusal s) 0 && eqb (sizeOf s) 1
 fits s (in-thousandths.Refused r) =
     not (eqb (refusal s) 0) && (eqb (r .number) (refusal s) && eqb (r .row) (toldOf s (refusal s) .row))
 
-tells : (s : List ℕ) (answer : InThousandths) → fits s answer ≡ true → TellsThousandths s answer
+pub tells : (s : List ℕ) (answer : InThousandths) → fits s answer ≡ true → TellsThousandths s answer
 tells s (in-thousandths.Ratio k) e =
     let a = and-both _ _ e in
     let b = and-both _ _ (a .1) in

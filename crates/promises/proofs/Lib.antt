@@ -22,5 +22,6 @@ pub mod SheetLength
 pub mod Sheet
 pub mod Examples
 pub mod TakeInTried
+pub mod SheetTried
 pub mod Tried
 pub mod Promises

@@ -66,8 +66,12 @@ three-numbers first x y z = line-length first (x ∷ y ∷ z ∷ []) ∙ simp le
 module _ (s : List ℕ) (a : refusal s ≡ 0) where
   heading-most : length (headingLine (holdOf s) (sizeOf s)) ≤ 12
   heading-most =
-      omega (arith, one-number (84 ∷ 71 ∷ 80 ∷ 32 ∷ 49 ∷ 32 ∷ holdOf s ∷ []) (sizeOf s), accepted-sized s a .most,
-        short 2 (sizeOf s) (omega arith) (omega (arith, accepted-sized s a .most)))
+      omega (
+        arith,
+        one-number (84 ∷ 71 ∷ 80 ∷ 32 ∷ 49 ∷ 32 ∷ holdOf s ∷ []) (sizeOf s),
+        accepted-sized s a .most,
+        short 2 (sizeOf s) (omega arith) (omega (arith, accepted-sized s a .most)),
+      )
 
   left-most : length (leftLine s) ≤ 1942
   left-most = order-fits s a 1 left-side 76
@@ -92,8 +96,13 @@ module _ (s : List ℕ) (a : refusal s ≡ 0) where
       let last = crossings (tableOf s) (ran .last) in
       let taken = table-run (tableOf s) (accepted-fair s a) mostTurns (layoutsOf s) (accepted-fits s a) .allowed in
       let below = line (32 ∷ ending settled ∷ []) (last ∷ []) in
-      omega (arith, length-append (84 ∷ next (ran .turns)) below, one-number (32 ∷ ending settled ∷ []) last,
-        short 5 (ran .turns) (omega arith) (omega (arith, taken)), short 5 last (omega arith) (omega (arith, count-most (ran .last))))
+      omega (
+        arith,
+        length-append (84 ∷ next (ran .turns)) below,
+        one-number (32 ∷ ending settled ∷ []) last,
+        short 5 (ran .turns) (omega arith) (omega (arith, taken)),
+        short 5 last (omega arith) (omega (arith, count-most (ran .last))),
+      )
 
   third-most : {third : ℕ} → ThirdNumber s third → third ≤ 1000
   third-most t = rw (t .or-zero) (go (t .answer) (t .told .answers))
@@ -108,8 +117,13 @@ module _ (s : List ℕ) (a : refusal s ≡ 0) where
       let d = shownDisplacement s in
       let w = worst (sizeOf s) in
       let most = worst-most (sizeOf s) (accepted-sized s a .most) in
-      omega (arith, three-numbers (69 ∷ []) d w third, short 7 d (omega arith) (omega (arith, displacement-at-most s a)),
-        short 7 w (omega arith) (omega arith), short 3 third (omega arith) (omega (arith, third-most t)))
+      omega (
+        arith,
+        three-numbers (69 ∷ []) d w third,
+        short 7 d (omega arith) (omega (arith, displacement-at-most s a)),
+        short 7 w (omega arith) (omega arith),
+        short 3 third (omega arith) (omega (arith, third-most t)),
+      )
 
 -- ---- a refusal's line
 
@@ -208,9 +222,14 @@ run-most s a = go (isRun s) refl
         let again = run-again s e .0 in
         let ran = ranTo s mostTurns in
         let first = turnsLine (ran .turns) (ran .settled) (crossings (tableOf s) (ran .last)) in
-        rw e (omega (arith, length-append first (leftLine (afterRun s) ++ rightLine (afterRun s)),
-          length-append (leftLine (afterRun s)) (rightLine (afterRun s)), turns-line-most s a (ran .settled),
-          left-most (afterRun s) again, right-most (afterRun s) again))
+        rw e (omega (
+          arith,
+          length-append first (leftLine (afterRun s) ++ rightLine (afterRun s)),
+          length-append (leftLine (afterRun s)) (rightLine (afterRun s)),
+          turns-line-most s a (ran .settled),
+          left-most (afterRun s) again,
+          right-most (afterRun s) again,
+        ))
     go false e =
         rw e (omega (arith, length-append (refusedLine (toldOf s (runRefusal s mostTurns))) [], run-refused-most s a))
 
@@ -218,9 +237,18 @@ stands-most : (s : List ℕ) (third : ℕ) → refusal s ≡ 0 → ThirdNumber s
 stands-most s third a t =
     let e = entangledLine (shownDisplacement s) (worst (sizeOf s)) third in
     let c = countLine (shownCount s) in
-    omega (arith, length-append (headingLine (holdOf s) (sizeOf s)) (leftLine s ++ (rightLine s ++ (c ++ e))),
-      length-append (leftLine s) (rightLine s ++ (c ++ e)), length-append (rightLine s) (c ++ e), length-append c e,
-      heading-most s a, left-most s a, right-most s a, count-line-most s a, entangled-line-most s a t)
+    omega (
+      arith,
+      length-append (headingLine (holdOf s) (sizeOf s)) (leftLine s ++ (rightLine s ++ (c ++ e))),
+      length-append (leftLine s) (rightLine s ++ (c ++ e)),
+      length-append (rightLine s) (c ++ e),
+      length-append c e,
+      heading-most s a,
+      left-most s a,
+      right-most s a,
+      count-line-most s a,
+      entangled-line-most s a t,
+    )
 
 pub sheet-most : (s : List ℕ) (third : ℕ) → ThirdNumber s third → length (sheetText s third) ≤ 7832
 sheet-most s third t = go (accepted (refusal s)) refl

@@ -165,15 +165,24 @@ module _ (s : List ℕ) (t₁ t₂ t₃ t₄ third t₆ t₇ t₈ : ℕ) where
       ap₂ _++_ (accepted-line s t₁ 1 a) (ap₂ _++_ (accepted-line s t₂ 2 a) (ap₂ _++_ (accepted-line s t₃ 3 a)
       (ap₂ _++_ (accepted-line s t₄ 4 a) (ap₂ _++_ (accepted-line s third 5 a) (run-lines s t₆ t₇ t₈ a)))))
       ∙ five (headingLine (holdOf s) (sizeOf s)) (leftLine s) (rightLine s) (countLine (shownCount s))
-        (entangledLine (shownDisplacement s) (worst (sizeOf s)) third) (ofTheRun s)
+      (entangledLine (shownDisplacement s) (worst (sizeOf s)) third) (ofTheRun s)
       ∙ sym (sheet-accepted s third a)
 
   whole-refused : refusal s ≢ 0 → eight ≡ sheetText s third
   unfolding eight
   whole-refused h =
       let same = not-run s (refused-not-run s h) in
-      rw (same, refused-line s t₁ 1 h, refused-line s t₂ 2 h, refused-line s t₃ 3 h, refused-line s t₄ 4 h, refused-line s third 5 h,
-        refused-line s t₆ 6 h, refused-line s t₇ 7 h, refused-line s t₈ 8 h)
+      rw (
+        same,
+        refused-line s t₁ 1 h,
+        refused-line s t₂ 2 h,
+        refused-line s t₃ 3 h,
+        refused-line s t₄ 4 h,
+        refused-line s third 5 h,
+        refused-line s t₆ 6 h,
+        refused-line s t₇ 7 h,
+        refused-line s t₈ 8 h,
+      )
       (append-nil _ ∙ sym (sheet-refused s third h))
 
   whole : eight ≡ sheetText s third

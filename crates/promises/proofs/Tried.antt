@@ -45,6 +45,7 @@ use Rattle.promises.specs.MergeExamples.{plus, example1}
 use Rattle.promises.proofs.Merge.{told-number}
 use Rattle.promises.specs.Newick.{ReadAs}
 use Rattle.promises.proofs.TakeInTried.{tried as take-in-tried}
+use Rattle.promises.proofs.SheetTried.{tried as sheet-tried}
 use Rattle.promises.specs.Tried.{tied, byte4, tiedPinned, pinnedRoot, rootMoved, pinnedHeld, case2Record, pinnedOver, cleared}
 use Rattle.promises.specs.Tried.{bothBad, goodText, badText, nines, twiceThenZero, ownRow, leafTwice, Tried}
 
@@ -204,6 +205,7 @@ tried = record {
   signs-exchanged = λ k. let e = ap (λ r. getD r 0 0) (k .rows-read refl) in omega (arith, e, rows-begin);
   no-rows-written = λ k. let e = ap (λ r. getD r 0 0) (k .rows-read refl) in omega (arith, e, rows-begin);
   orders-taken-in = take-in-tried;
+  sheets = sheet-tried;
   turned-over-in-table = λ out k. let e = row-2 (k .names-rows 2 room) in omega (arith, e);
   part-elsewhere = λ s side first second first-at second-at part part-at e ne b. ne (b .begins ∙ rw e refl);
 }

@@ -23,5 +23,6 @@ pub mod TakeInExamples
 pub mod SheetExamples
 pub mod Examples
 pub mod TakeInTried
+pub mod SheetTried
 pub mod Tried
 pub mod Promises

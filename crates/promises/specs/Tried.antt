@@ -28,6 +28,7 @@ use Rattle.promises.specs.Entanglement.{ThousandthsKeeps}
 use Rattle.promises.specs.Newick.{Reading, Writing}
 use Rattle.promises.specs.Merge.{TableReading, TableWriting}
 use Rattle.promises.specs.TakeInTried.{TakeInTried}
+use Rattle.promises.specs.SheetTried.{SheetTried}
 use Rattle.promises.specs.Cases.{heldRecordOf, recordOf, case2Freed}
 use Rattle.promises.specs.MergeExamples.{minus, plus, example1}
 
@@ -160,5 +161,7 @@ pub record Tried : Type 0 where
   pub no-rows-written : TableReading 4 example1 nines (refused 0) nines → ⊥
   -- Those of taking in an order.
   pub orders-taken-in : TakeInTried
+  -- Wrong sheets.
+  pub sheets : SheetTried
   -- Writing a table of the left as its layout stands, rows 2 and 3 turned over, and not as its rows are given.
   pub turned-over-in-table : (out : List ℤ) → TableWriting (recordOf case2Freed) 1 out asItStands → ⊥
