@@ -7,7 +7,7 @@ use mathlib.Core.List.{List, [], _++_}
 use native.Mathlib.Omega.{arith}
 use borrow.Author.Tests.{eq-eqb, ne-eqb, eqb-true, eqb-false}
 use lib.Dec.{eqb}
-use lib.ListN.{length, drop}
+use lib.ListN.{length, drop, length-append}
 use lib.Seq.{sets}
 use Rattle.record_fields.specs.Fields.{holdOf, sizeOf, mostTurns}
 use Rattle.record_fields.specs.Refusals.{refusal}
@@ -100,3 +100,9 @@ module _ (s : List ℕ) (k : ℕ) {out out′ : List ℕ} {r : ℕ} (long : leng
       let third : ThirdNumber s 0 =
       record { answer = in-thousandths.Refused (toldOf s (refusal s)); told = record { answers = (h, refl) }; or-zero = refl } in
       says 0 (λ _. third) (rw (ne-eqb (refusal s) 0 h) (rw t at p)) (sym (not-run s k h))
+
+-- what is answered is within the memory
+pub line-within : {s out out′ s′ : List ℕ} {k r : ℕ} → SaysLine s k out r out′ s′ → r ≤ length out′
+line-within {s} {out} {k = k} {r} p =
+    let text = lineText s (p .third) k in
+    omega (arith, ap length (p .writes), length-append text (drop r out), p .answers)

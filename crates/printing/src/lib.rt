@@ -1,4 +1,5 @@
-// Text on standard output, written at once. What cannot be written is lost: a program has nobody to tell.
+// Text on standard output, written at once, for the desk. Numbers are the text that `work_text` puts, which is proved.
+// What cannot be written is lost.
 ghost use mathlib.Core.Path.{_≡_};
 ghost use lib.IntN.{natAbs};
 
@@ -13,9 +14,16 @@ pub fn byte(x: u8) {
     io::write_all(1, &s);
 }
 
+// A number of up to 64 bits in decimal digits.
+fn wide_number(x: u64) {
+    let mut digits = [0u8; 20];
+    let n = work_text::put_number(x, &mut digits, 0);
+    io::write_all(1, &digits[..n]);
+}
+
 // A number in decimal digits.
 pub fn number(x: u32) {
-    io::print_decimal(1, x as u64);
+    wide_number(x as u64);
 }
 
 // A space, and a number in decimal digits.
@@ -49,7 +57,7 @@ pub fn signed_entry(x: i32) {
     if x < 0 {
         byte(b'-');
     }
-    io::print_decimal(1, size(x));
+    wide_number(size(x));
 }
 
 // A refusal: its number, and its row if it has one.

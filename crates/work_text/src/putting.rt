@@ -14,12 +14,12 @@ pub fn put(s: &[u8], out: &mut [u8], at: usize) -> usize
 }
 
 // A number in decimal digits.
-pub fn put_number(x: u32, out: &mut [u8], at: usize) -> usize
+pub fn put_number(x: u64, out: &mut [u8], at: usize) -> usize
     requires { ⌜ at + length (decimal x) ≤ length (now out) ⌝ }
     ensures { λ r. ⌜ Puts (decimal x) (now (out .entry)) at r (now (out .exit)) ⌝ }
 {
     let mut digits = [0u8; 20];
-    let k = io::decimal(x as u64, &mut digits);
+    let k = io::decimal(x, &mut digits);
     put(&digits[..k], out, at)
 }
 
@@ -29,5 +29,5 @@ pub fn put_next(x: u32, out: &mut [u8], at: usize) -> usize
     ensures { λ r. ⌜ Puts (next x) (now (out .entry)) at r (now (out .exit)) ⌝ }
 {
     let from = put(b" ", out, at);
-    put_number(x, out, from)
+    put_number(x as u64, out, from)
 }
