@@ -9,6 +9,20 @@ program() {
   "${emulator[@]}" "$toolchain/lib/ld-linux-x86-64.so.2" --library-path "$toolchain/lib" "target/bin/$1"
 }
 
+# told NAME: runs it on standard input. A program of Rattle's has no exit status to give; what it says on standard error is
+# that reading or writing failed, so that is passed on and the status is then 1.
+told() {
+  local said status=0
+  said=$(mktemp)
+  program "$1" 2> "$said" || status=$?
+  if [ -s "$said" ]; then
+    cat "$said" >&2
+    status=1
+  fi
+  rm -f "$said"
+  return "$status"
+}
+
 # built NAME: has rt prove and build a program, where it has not yet or a file of a crate is newer; what is being proved is
 # told on the standard error.
 built() {

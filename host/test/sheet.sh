@@ -1,7 +1,8 @@
 #!/usr/bin/env bash
 # Compares sheet with the peer's sheet: records of all shapes and sizes, each hold, some rows pinned and all of them,
 # the first or the last row of a side bad, cut short, too long, empty, damaged, and given in pieces; and both sides of
-# limits of a thousandth and of a layout byte. Ends with 1 at the first difference.
+# limits of a thousandth and of a layout byte. Then input that can't be read and output that can't be written, a closed
+# pipe among it. Ends with 1 at the first difference.
 . "$(dirname "$0")/../programs.sh"
 build
 records=0
@@ -102,4 +103,22 @@ END
 cp crates/sheet/stdin "$file"
 { head -c 5 "$file"; sleep 0.2; tail -c +6 "$file" | head -c 20; sleep 0.2; tail -c +26 "$file"; } | program sheet > "$out/sheet.got"
 cmp "$out/sheet.got" crates/sheet/stdout
-echo "sheet: $records inputs printed as the peer does"
+# Where it can't read or can't write, host/sheet.sh says so and ends with 1.
+fails() { # WHAT COMMAND..
+  local what=$1 status=0
+  shift
+  "$@" 2> "$out/sheet.said" || status=$?
+  [ "$status" -eq 1 ] || { echo "sheet, $what: ends with $status, not 1"; exit 1; }
+  grep -qx "sheet: standard $what" "$out/sheet.said" || { echo "sheet, $what: says:"; cat "$out/sheet.said"; exit 1; }
+}
+unread() { bash host/sheet.sh - < /; } # a folder
+closed() { bash host/sheet.sh - <&-; }
+full() { bash host/sheet.sh > /dev/full; }
+nowhere() { bash host/sheet.sh >&-; }
+unheard() { { sleep 0.3; bash host/sheet.sh; } | true; return "${PIPESTATUS[0]}"; } # a closed pipe
+fails "input can't be read" unread
+fails "input can't be read" closed
+fails "output can't be written" full
+fails "output can't be written" nowhere
+fails "output can't be written" unheard
+echo "sheet: $records inputs printed as the peer does; reading and writing that fail are told"

@@ -102,9 +102,14 @@ fn answer_all(input: &[u8], s: &mut [u8], xs: &mut [u16]) {
 
 // One byte more than is answered, so that it shows whether more follows. A line says fewer bytes than half its own.
 fn main() {
-    let mut input = room::for_input();
-    let got = io::read_full(0, &mut input);
+    let mut lines = room::for_input();
+    let read = input::read_whole(&mut lines);
+    if !read.whole {
+        io::write_all(2, b"desk: standard input can't be read\n");
+        return;
+    }
+    let got = read.bytes;
     let mut s = room::for_bytes();
     let mut xs = room::for_list();
-    answer_all(&input[..got], &mut s, &mut xs);
+    answer_all(&lines[..got], &mut s, &mut xs);
 }

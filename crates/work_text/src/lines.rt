@@ -1,8 +1,9 @@
 // Numbers, each behind a space, and lines that end with them, put into lent memory from a place on.
+ghost use mathlib.Core.List.{[], _∷_};
 ghost use mathlib.Core.Path.{_≡_};
 ghost use Prim.Native.Nat.{_+_, _≤_};
 ghost use lib.ListN.{length};
-ghost use Rattle.work_text.specs.Lines.{line, spaced};
+ghost use Rattle.work_text.specs.Lines.{line, lineFeed, spaced};
 ghost use Rattle.work_text.specs.Puts.{Puts};
 use crate::putting::put;
 use crate::putting::put_next;
@@ -42,6 +43,14 @@ pub fn put_spaced_entries(xs: &[u16], out: &mut [u8], at: usize) -> usize
     end
 }
 
+// The line feed that ends a line.
+fn put_feed(out: &mut [u8], at: usize) -> usize
+    requires { ⌜ at + 1 ≤ length (now out) ⌝ }
+    ensures { λ r. ⌜ Puts (lineFeed ∷ []) (now (out .entry)) at r (now (out .exit)) ⌝ }
+{
+    put(b"\n", out, at)
+}
+
 // A line: bytes, numbers, each behind a space, and a line feed.
 pub fn put_line(first: &[u8], xs: &[u32], out: &mut [u8], at: usize) -> usize
     requires { ⌜ at + length (line (now first) (now xs)) ≤ length (now out) ⌝ }
@@ -49,7 +58,7 @@ pub fn put_line(first: &[u8], xs: &[u32], out: &mut [u8], at: usize) -> usize
 {
     let begun = put(first, out, at);
     let listed = put_spaced(xs, out, begun);
-    put(b"\n", out, listed)
+    put_feed(out, listed)
 }
 
 // A line whose numbers are the entries of a list.
@@ -59,5 +68,5 @@ pub fn put_entries_line(first: &[u8], xs: &[u16], out: &mut [u8], at: usize) -> 
 {
     let begun = put(first, out, at);
     let listed = put_spaced_entries(xs, out, begun);
-    put(b"\n", out, listed)
+    put_feed(out, listed)
 }
