@@ -1,0 +1,186 @@
+/* A reset at any instant: the calls that change a record, stepped instruction by instruction (stepping.h), and the record
+ * looked at whenever a byte of it has changed (states.h): accepted and refused calls, on records of many shapes and
+ * sizes, under all four holds, and wrong versions of the calls, which must be found. Prints how many states were looked
+ * at; ends with 1 if one is wrong or a wrong version is not found. */
+#define _GNU_SOURCE
+#include "stepping.h"
+#include "wrong.h"
+
+/* The calls' arguments, one after the other: the job for a record in `variant`, or 0 where there are no more. */
+static int free_job(struct job *job, const uint8_t *made, int variant) {
+    (void)made;
+    job->side = variant == 0 ? TANGLE_LEFT : TANGLE_RIGHT;
+    return variant < 2;
+}
+
+static int run_job(struct job *job, const uint8_t *made, int variant) {
+    (void)made;
+    job->allowance = variant == 0 ? TANGLE_MOST_TURNS : 1u + below(3);
+    return variant < 2;
+}
+
+/* A list of rows that may be turned over, some of them several times, of up to `most` entries. */
+static void fill_list(struct job *job, const uint8_t *made, size_t most) {
+    uint16_t n = leaves_of(made);
+    job->entries = 0;
+    for (size_t tries = 0; n > 1 && tries < 2 * most && job->entries < most; tries++) {
+        struct tangle_entry entry = {1u + below(2), 1u + below((uint16_t)(n - 1))};
+        if (may_turn(made, entry.side, entry.row)) job->list[job->entries++] = entry;
+    }
+}
+
+static int hands_job(struct job *job, const uint8_t *made, int variant) {
+    fill_list(job, made, variant == 0 ? 1 : leaves_of(made) < 64 ? 8 : 100);
+    return variant < 2;
+}
+
+static int hold_job(struct job *job, const uint8_t *made, int variant) {
+    (void)made;
+    job->letter = variant < HOLDS ? holds[variant] : 0;
+    return variant < HOLDS;
+}
+
+static int pin_job(struct job *job, const uint8_t *made, int variant) {
+    uint16_t n = leaves_of(made);
+    job->side = 1u + (unsigned)variant % 2;
+    job->row = n == 1 ? 1 : 1u + below((uint16_t)(n - 1));
+    job->pin = variant < 2;
+    return variant < 4;
+}
+
+static int (*const jobs_for[CALLS])(struct job *job, const uint8_t *made, int variant) = {free_job, run_job, hands_job,
+                                                                                          hold_job, pin_job};
+
+/* The refusal that is due on a good record. */
+static uint32_t expected(const struct job *job, const uint8_t *made) {
+    int left = is_held(made, TANGLE_LEFT), right = is_held(made, TANGLE_RIGHT);
+    if (job->call == calls + FREE && (job->side == TANGLE_LEFT ? left : right)) return TANGLE_HELD;
+    if (job->call == calls + RUN && (left || right)) return TANGLE_HELD;
+    return job->call == calls + PIN && leaves_of(made) == 1 ? TANGLE_ROW : 0;
+}
+
+static struct watched watched;
+static struct tally {
+    unsigned long calls, refused, steps, states;
+} tallies[CALLS][2];
+static int failures;
+
+static void tell(const char *name, const struct plan *plan, const struct seen *seen) {
+    printf("%s over %u leaves, hold %c, state %lu: byte %zu: %s\n", name, (unsigned)plan->n, holds[plan->hold], seen->at,
+           seen->fault.byte, seen->fault.what);
+}
+
+/* Steps the job on stage and counts what was seen. */
+static void stepped_job(const struct plan *plan, const uint8_t *made, int way, uint32_t refusal) {
+    const struct call *call = stage->job.call;
+    struct tally *tally = &tallies[call - calls][way];
+    stage->at = below(64);
+    struct seen seen = step(&watched, made, way, (int)(tally->calls % COPIES));
+    if (seen.fault.what == NULL && watched.refusal != refusal) seen.fault.what = "another refusal than the one due";
+    if (seen.fault.what != NULL) tell(call->name, plan, &seen);
+    failures += seen.fault.what != NULL;
+    tally->calls++;
+    tally->refused += refusal != 0;
+    tally->steps += seen.steps;
+    tally->states += seen.states;
+}
+
+/* Every call on one record. */
+static void step_record(const struct plan *plan, int way) {
+    uint8_t made[MOST_BYTES + 1];
+    struct job *job = &stage->job;
+    for (int call = 0; call < CALLS; call++) {
+        job->length = make_record(made, plan);
+        job->call = calls + call;
+        for (int variant = 0; jobs_for[call](job, made, variant); variant++)
+            stepped_job(plan, made, way, expected(job, made));
+    }
+}
+
+/* Records over n leaves, so many for each hold. */
+static void step_size(uint16_t n, size_t records, int way) {
+    for (size_t i = 0; i < records * HOLDS; i++) {
+        struct plan plan = {n, below(SHAPES), below(SHAPES), below(LINK_KINDS), below(LAYOUT_KINDS), i % HOLDS};
+        step_record(&plan, way);
+    }
+}
+
+/* Calls that are refused for their arguments: the call, an argument that is changed, and the refusal. */
+static void step_bad_arguments(const struct plan *plan, int way) {
+    uint8_t made[MOST_BYTES + 1];
+    struct job *job = &stage->job;
+    uint32_t n = plan->n;
+    const struct {
+        int call;
+        uint32_t side, row, other, refusal; /* `other` is a letter, an allowance, or how many entries a list has */
+    } bad[] = {{FREE, 0, 0, 0, 13},     {FREE, 65537, 0, 0, 13}, {RUN, 0, 0, 0, 12},       {RUN, 0, 0, 130819, 12},
+               {HOLD, 0, 0, 'X', 4},    {HOLD, 0, 0, 334, 4},    {PIN, 3, 1, 1, 13},       {PIN, 1, 0, 1, 15},
+               {PIN, 2, n, 1, 15},      {HANDS, 3, 1, 9, 13},    {HANDS, 1, 0, 9, 15},     {HANDS, 2, n, 9, 15},
+               {HANDS, 1, 1, 9, 22},    {HANDS, 2, 1, 9, 11},    {HANDS, 1, 2, 1025, 17}};
+    make_record(made, plan);
+    made[HOLD_AT] = TANGLE_HOLD_RIGHT;
+    made[layout_from(plan->n, TANGLE_LEFT)] = 3;
+    made[layout_from(plan->n, TANGLE_LEFT) + 1] = 0;
+    job->length = bytes_over(plan->n);
+    for (size_t i = 0; i < sizeof bad / sizeof *bad; i++) {
+        job->call = calls + bad[i].call;
+        job->side = bad[i].side;
+        job->row = bad[i].row;
+        job->letter = job->allowance = bad[i].other;
+        job->entries = bad[i].call == HANDS ? bad[i].other : 0;
+        for (size_t k = 0; k < job->entries; k++) job->list[k] = (struct tangle_entry){TANGLE_LEFT, 2};
+        if (job->entries > 0) job->list[job->entries - 1] = (struct tangle_entry){bad[i].side, bad[i].row};
+        stepped_job(plan, made, way, bad[i].refusal);
+    }
+}
+
+/* Every call on records that are refused, 1 to 10. */
+static void step_bad_records(const struct plan *plan, int way) {
+    uint8_t good[MOST_BYTES + 1], bad[MOST_BYTES + 1];
+    struct job *job = &stage->job;
+    for (int call = 0; call < CALLS; call++)
+        for (uint32_t refusal = TANGLE_SHORT; refusal <= TANGLE_LAYOUT; refusal++) {
+            make_record(good, plan);
+            job->call = calls + call;
+            if (!jobs_for[call](job, good, 0)) continue;
+            memcpy(bad, good, sizeof bad);
+            job->length = damage(bad, refusal);
+            stepped_job(plan, bad, way, refusal);
+        }
+}
+
+static void print_tallies(void) {
+    static const char *const ways[] = {"whole", "stores"};
+    unsigned long states = 0;
+    printf("%-6s %-7s %7s %8s %13s %8s\n", "call", "stepped", "calls", "refused", "instructions", "states");
+    for (int call = 0; call < CALLS; call++)
+        for (int way = WHOLE; way <= STORES; way++) {
+            const struct tally *tally = &tallies[call][way];
+            printf("%-6s %-7s %7lu %8lu %13lu %8lu\n", calls[call].name, ways[way], tally->calls, tally->refused,
+                   tally->steps, tally->states);
+            states += tally->states;
+        }
+    printf("a reset at any instant: %lu states looked at, %d wrong\n", states, failures);
+}
+
+int main(void) {
+    static const struct {
+        uint16_t n;
+        size_t whole, stores; /* records for each hold */
+    } sizes[] = {{1, 1, 2},  {2, 1, 4},  {3, 1, 4},  {4, 1, 4},   {5, 1, 4},
+                 {8, 1, 4},  {16, 1, 4}, {64, 0, 4}, {511, 0, 4}, {512, 0, 4}};
+    start_stepping();
+    for (size_t i = 0; i < sizeof sizes / sizeof *sizes; i++) {
+        step_size(sizes[i].n, sizes[i].whole, WHOLE);
+        step_size(sizes[i].n, sizes[i].stores, STORES);
+    }
+    for (int way = WHOLE; way <= STORES; way++) {
+        struct plan plan = {way == WHOLE ? 4 : 512, 3, 3, SHUFFLED, TURNED, 0};
+        step_bad_arguments(&plan, way);
+        step_bad_records(&plan, way);
+    }
+    print_tallies();
+    failures += step_wrong_versions();
+    end_stepping();
+    return failures != 0;
+}
