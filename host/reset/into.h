@@ -5,8 +5,8 @@
 
 #include "../viewer/tangle.h"
 
-struct tangle_run *run_into(struct tangle_run *answer, uint8_t *record, size_t length, uint32_t allowance)
-    __asm__("tangle_run");
+struct tangle_run *run_into(struct tangle_run *answer, uint8_t *record, size_t length,
+                            uint32_t allowance) __asm__("tangle_run");
 struct tangle_squared_entanglement *squared_into(struct tangle_squared_entanglement *answer, const uint8_t *record,
                                                  size_t length) __asm__("tangle_squared_entanglement");
 

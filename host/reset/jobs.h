@@ -1,6 +1,7 @@
 /* The calls that change a record, in one form: a job is a call with its arguments. Each says how it is made, and which
  * bytes of a record it may change, worked out from the arguments and the record as it was and not by the calls. A later
- * call that changes a record joins here: a function for each of the two, a line in `calls`, and its jobs in jobs_for. */
+ * call that changes a record joins here: a function for each of the two, a line in `calls`, and its jobs in jobs_for.
+ */
 #ifndef JOBS_H
 #define JOBS_H
 
@@ -17,8 +18,8 @@ struct job {
 typedef uint32_t make_t(uint8_t *record, const struct job *job);
 typedef void may_t(uint8_t *may, const uint8_t *record, const struct job *job);
 
-/* What else is true of a call. AGAIN: made again on what a reset left, it leaves what it would have left. LISTS: it turns
- * rows over one after the other, as its list has them. PINS: it pins and unpins, and turns nothing over. */
+/* What else is true of a call. AGAIN: made again on what a reset left, it leaves what it would have left. LISTS: it
+ * turns rows over one after the other, as its list has them. PINS: it pins and unpins, and turns nothing over. */
 enum { AGAIN = 1, LISTS = 2, PINS = 4 };
 
 struct call {
@@ -57,8 +58,7 @@ static int may_turn(const uint8_t *record, uint32_t side, uint32_t row) {
 
 static void may_side(uint8_t *may, const uint8_t *record, uint32_t side) {
     uint16_t n = leaves_of(record);
-    for (uint32_t row = 1; row < n; row++)
-        may[layout_from(n, side) + row - 1] = (uint8_t)may_turn(record, side, row);
+    for (uint32_t row = 1; row < n; row++) may[layout_from(n, side) + row - 1] = (uint8_t)may_turn(record, side, row);
 }
 
 static void may_free(uint8_t *may, const uint8_t *record, const struct job *job) { may_side(may, record, job->side); }
@@ -88,8 +88,9 @@ static void may_pin(uint8_t *may, const uint8_t *record, const struct job *job) 
 enum { FREE, RUN, HANDS, HOLD, PIN, CALLS };
 
 static const struct call calls[CALLS] = {
-    {"free", make_free, may_free, AGAIN}, {"run", make_run, may_run, 0},        {"hands", make_hands, may_hands, LISTS},
-    {"hold", make_hold, may_hold, AGAIN}, {"pin", make_pin, may_pin, AGAIN | PINS},
+    {"free", make_free, may_free, AGAIN},     {"run", make_run, may_run, 0},
+    {"hands", make_hands, may_hands, LISTS},  {"hold", make_hold, may_hold, AGAIN},
+    {"pin", make_pin, may_pin, AGAIN | PINS},
 };
 
 #endif

@@ -1,6 +1,6 @@
 /* Records of any size, made by a seed: the trees of host/measure/trees.h on either side, three kinds of links and of
- * layouts, all four holds; and the same damaged so that a known refusal is due. Where a part lies is written here again,
- * from docs/RECORD.md. */
+ * layouts, all four holds; and the same damaged so that a known refusal is due. Where a part lies is written here
+ * again, from docs/RECORD.md. */
 #ifndef RECORDS_H
 #define RECORDS_H
 
@@ -74,12 +74,11 @@ static inline size_t make_record(uint8_t *record, const struct plan *plan) {
     return bytes_over(n);
 }
 
-/* Damages a good record so that this refusal, from 1 to 10, is due, and answers its new length; 0 where a single leaf
- * has no such part. One byte beyond the record is used. */
+/* Damages a good record so that this refusal, from 1 to 10, is due, and answers its new length. A single leaf has no
+ * rows and no layout, and so no 7, 8 and 10. One byte beyond the record is used. */
 static inline size_t damage(uint8_t *record, uint32_t refusal) {
     uint16_t n = leaves_of(record);
     size_t length = bytes_over(n);
-    if (n == 1 && (refusal == TANGLE_LEFT_ROW || refusal == TANGLE_RIGHT_ROW || refusal == TANGLE_LAYOUT)) return 0;
     switch (refusal) {
         case TANGLE_SHORT: return below(8);
         case TANGLE_MARK: record[below(3)] ^= 1; break;

@@ -46,8 +46,8 @@ static const char *part_of(const struct watched *w, size_t byte) {
     return w->before[byte] < 2 ? "a layout byte that isn't the call's" : "a pinned row's layout byte";
 }
 
-/* What is wrong with one byte's value, or null. A layout byte stays one; pins stay, but where a call pins, and there the
- * turning stays. */
+/* What is wrong with one byte's value, or null. A layout byte stays one; pins stay, but where a call pins, and there
+ * the turning stays. */
 static const char *value_fault(const struct watched *w, size_t byte, uint8_t x) {
     uint8_t was = w->before[byte];
     int pins = w->job->call->rules & PINS, lists = w->job->call->rules & LISTS;
@@ -88,7 +88,8 @@ static struct fault fault_in(struct watched *w, const uint8_t *now) {
     if (w->refusal != TANGLE_ACCEPTED) return (struct fault){NULL, 0};
     if (tangle_check(now, job->length).refusal != 0) return (struct fault){"a record that is not accepted", 0};
     if (job->call->rules & LISTS && !is_handed(w, now)) return (struct fault){"no first part of the hand list", 0};
-    if (job->call->rules & AGAIN && !is_mended(w, now)) return (struct fault){"the same call again leaves something else", 0};
+    if (job->call->rules & AGAIN && !is_mended(w, now))
+        return (struct fault){"the same call again leaves something else", 0};
     return (struct fault){NULL, 0};
 }
 

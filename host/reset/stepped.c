@@ -1,10 +1,11 @@
-/* A reset at any instant: the calls that change a record, stepped instruction by instruction (stepping.h), and the record
- * looked at whenever a byte of it has changed (states.h): accepted and refused calls, on records of many shapes and
- * sizes, under all four holds, and wrong versions of the calls, which must be found. Prints how many states were looked
- * at; ends with 1 if one is wrong or a wrong version is not found. */
+/* stepped [short]: a reset at any instant. The calls that change a record are stepped instruction by instruction
+ * (stepping.h), and the record is looked at whenever a byte of it has changed (states.h): accepted and refused calls,
+ * on records of many shapes and sizes, under all four holds, and wrong versions of the calls, which must be found. In
+ * short, for changed copies of the calls, only a few records. Prints how many states were looked at; ends with 1 if one
+ * is wrong or a wrong version is not found. */
 #define _GNU_SOURCE
 #include "stepping.h"
-#include "wrong.h"
+#include "wrong_stepped.h"
 
 /* The calls' arguments, one after the other: the job for a record in `variant`, or 0 where there are no more. */
 static int free_job(struct job *job, const uint8_t *made, int variant) {
@@ -60,14 +61,12 @@ static uint32_t expected(const struct job *job, const uint8_t *made) {
 }
 
 static struct watched watched;
-static struct tally {
-    unsigned long calls, refused, steps, states;
-} tallies[CALLS][2];
+static struct tally { unsigned long calls, refused, steps, states; } tallies[CALLS][2];
 static int failures;
 
 static void tell(const char *name, const struct plan *plan, const struct seen *seen) {
-    printf("%s over %u leaves, hold %c, state %lu: byte %zu: %s\n", name, (unsigned)plan->n, holds[plan->hold], seen->at,
-           seen->fault.byte, seen->fault.what);
+    printf("%s over %u leaves, hold %c, state %lu: byte %zu: %s\n", name, (unsigned)plan->n, holds[plan->hold],
+           seen->at, seen->fault.byte, seen->fault.what);
 }
 
 /* Steps the job on stage and counts what was seen. */
@@ -113,10 +112,10 @@ static void step_bad_arguments(const struct plan *plan, int way) {
     const struct {
         int call;
         uint32_t side, row, other, refusal; /* `other` is a letter, an allowance, or how many entries a list has */
-    } bad[] = {{FREE, 0, 0, 0, 13},     {FREE, 65537, 0, 0, 13}, {RUN, 0, 0, 0, 12},       {RUN, 0, 0, 130819, 12},
-               {HOLD, 0, 0, 'X', 4},    {HOLD, 0, 0, 334, 4},    {PIN, 3, 1, 1, 13},       {PIN, 1, 0, 1, 15},
-               {PIN, 2, n, 1, 15},      {HANDS, 3, 1, 9, 13},    {HANDS, 1, 0, 9, 15},     {HANDS, 2, n, 9, 15},
-               {HANDS, 1, 1, 9, 22},    {HANDS, 2, 1, 9, 11},    {HANDS, 1, 2, 1025, 17}};
+    } bad[] = {{FREE, 0, 0, 0, 13},  {FREE, 65537, 0, 0, 13}, {RUN, 0, 0, 0, 12},     {RUN, 0, 0, 130819, 12},
+               {HOLD, 0, 0, 'X', 4}, {HOLD, 0, 0, 334, 4},    {PIN, 3, 1, 1, 13},     {PIN, 1, 0, 1, 15},
+               {PIN, 2, n, 1, 15},   {HANDS, 3, 1, 9, 13},    {HANDS, 1, 0, 9, 15},   {HANDS, 2, n, 9, 15},
+               {HANDS, 1, 1, 9, 22}, {HANDS, 2, 1, 9, 11},    {HANDS, 1, 2, 1025, 17}};
     make_record(made, plan);
     made[HOLD_AT] = TANGLE_HOLD_RIGHT;
     made[layout_from(plan->n, TANGLE_LEFT)] = 3;
@@ -163,13 +162,13 @@ static void print_tallies(void) {
     printf("a reset at any instant: %lu states looked at, %d wrong\n", states, failures);
 }
 
-int main(void) {
+/* All sizes, and what is refused. */
+static void step_all(void) {
     static const struct {
         uint16_t n;
         size_t whole, stores; /* records for each hold */
-    } sizes[] = {{1, 1, 2},  {2, 1, 4},  {3, 1, 4},  {4, 1, 4},   {5, 1, 4},
-                 {8, 1, 4},  {16, 1, 4}, {64, 0, 4}, {511, 0, 4}, {512, 0, 4}};
-    start_stepping();
+    } sizes[] = {{1, 1, 2}, {2, 1, 4},  {3, 1, 4},  {4, 1, 4},   {5, 1, 4},
+                 {8, 1, 4}, {16, 1, 4}, {64, 0, 4}, {511, 0, 4}, {512, 0, 4}};
     for (size_t i = 0; i < sizeof sizes / sizeof *sizes; i++) {
         step_size(sizes[i].n, sizes[i].whole, WHOLE);
         step_size(sizes[i].n, sizes[i].stores, STORES);
@@ -179,8 +178,15 @@ int main(void) {
         step_bad_arguments(&plan, way);
         step_bad_records(&plan, way);
     }
+}
+
+int main(int count, char **words) {
+    int shortly = count > 1 && strcmp(words[1], "short") == 0;
+    start_stepping();
+    if (shortly) step_size(16, 3, STORES);
+    else step_all();
     print_tallies();
-    failures += step_wrong_versions();
+    if (!shortly) failures += step_wrong_versions();
     end_stepping();
     return failures != 0;
 }

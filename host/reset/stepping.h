@@ -18,7 +18,8 @@
 
 enum { WHOLE, STORES };
 
-/* How bytes are copied for the calls: as C's memcpy does it here, or one by one, the first or the last of them first. */
+/* How bytes are copied for the calls: as C's memcpy does it here, or one by one, the first or the last of them first.
+ */
 enum { AS_HERE, UPWARDS, DOWNWARDS, COPIES };
 
 /* What both processes see: the job, where its record stands, how it is made, whether it is being made, and what it
@@ -60,7 +61,8 @@ static void give_up(const char *why) {
 static void on_store(int number, siginfo_t *info, void *context) {
     const uint8_t *at = info->si_addr;
     (void)number, (void)context;
-    if (at < pages || at >= pages + pages_length || mprotect(pages, pages_length, PROT_READ | PROT_WRITE) != 0) _exit(3);
+    if (at < pages || at >= pages + pages_length || mprotect(pages, pages_length, PROT_READ | PROT_WRITE) != 0)
+        _exit(3);
 }
 
 /* The process that is stepped: makes one job after the other, and stops before each. Its stack begins at a page, so

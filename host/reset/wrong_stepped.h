@@ -1,7 +1,7 @@
 /* Wrong versions of the calls, to show that stepping finds them: each ends as the right one does, and is wrong for an
  * instant only, but for two that end so and are still no good to whoever makes the call again or is refused. */
-#ifndef WRONG_H
-#define WRONG_H
+#ifndef WRONG_STEPPED_H
+#define WRONG_STEPPED_H
 
 #include "stepping.h"
 
@@ -102,7 +102,9 @@ static const struct {
     const char *found;
 } wrong[] = {
     {{"free through 7", through_seven, may_free, AGAIN}, 'N', "a layout byte above 3"},
-    {{"free there and back", there_and_back, may_free, AGAIN}, 'N', "a byte neither as it was nor as the call leaves it"},
+    {{"free there and back", there_and_back, may_free, AGAIN},
+     'N',
+     "a byte neither as it was nor as the call leaves it"},
     {{"free moves the other side", moves_other, may_free, AGAIN}, 'N', "a layout byte that isn't the call's"},
     {{"free moves a held side", moves_other, may_free, AGAIN}, 'R', "a layout byte of a held side"},
     {{"free moves a pinned row", moves_pinned, may_free, AGAIN}, 'N', "a pinned row's layout byte"},
@@ -116,17 +118,20 @@ static const struct {
     {{"hold is no letter between", no_letter_between, may_hold, AGAIN}, 'N', "a hold neither old nor new"},
     {{"pin breaks a row", breaks_row, may_pin, AGAIN | PINS}, 'N', "a byte of a row"},
     {{"pin turns a row over", turns_in_pinning, may_pin, AGAIN | PINS}, 'N', "a row turned in pinning"},
-    {{"pin unpins if made again", pins_or_unpins, may_pin, AGAIN | PINS}, 'N', "the same call again leaves something else"},
+    {{"pin unpins if made again", pins_or_unpins, may_pin, AGAIN | PINS},
+     'N',
+     "the same call again leaves something else"},
 };
 
-/* Steps every wrong version both ways, and answers how many were not found, or found for something else. A store of what
- * is there already shows only where pages are read-only. */
+/* Steps every wrong version both ways, and answers how many were not found, or found for something else. A store of
+ * what is there already shows only where pages are read-only. */
 static int step_wrong_versions(void) {
     static struct watched w;
     static const struct plan plan = {WRONG_LEAVES, 2, 2, STRAIGHT, AS_GIVEN, 0};
     int missed = 0, versions = sizeof wrong / sizeof *wrong;
     uint8_t made[MOST_BYTES + 1];
-    stage->job = (struct job){NULL, TANGLE_LEFT, 1, 1, TANGLE_HOLD_BOTH, 9, make_record(made, &plan), 2, {{1, 1}, {1, 3}}};
+    stage->job =
+        (struct job){NULL, TANGLE_LEFT, 1, 1, TANGLE_HOLD_BOTH, 9, make_record(made, &plan), 2, {{1, 1}, {1, 3}}};
     made[row_at(TANGLE_LEFT, PINNED_ROW)] = 2;
     for (int i = 0; i < 2 * versions; i++) {
         int way = i < versions ? STORES : WHOLE;
