@@ -16,7 +16,10 @@ struct source {
 
 static int one_in(uint16_t times) { return below(times) == 0; }
 
-static uint32_t any_number(void) { return (uint32_t)below(65535) << 16 ^ below(65535); }
+static uint32_t any_number(void) {
+    uint32_t high = below(65535);
+    return high << 16 ^ below(65535);
+}
 
 /* `count` bytes of anything. */
 static void scribble(uint8_t *bytes, size_t count) {
@@ -26,17 +29,20 @@ static void scribble(uint8_t *bytes, size_t count) {
 /* Damages the record of a source in one of many ways, and answers its new length. */
 static size_t damage_any(struct source *s) {
     uint8_t *record = s->record;
-    size_t length = bytes_over(s->n);
+    size_t length = bytes_over(s->n), at = below((uint16_t)length);
     switch (below(8)) {
         case 0: return damage(record, s->n == 1 ? 1u + below(6) : 1u + below(10));
         case 1: return damage(record, s->n == 1 ? TANGLE_LINKS : 7u + below(4));
-        case 2: return below((uint16_t)length);
+        case 2: return at;
         case 3: scribble(record + length, 64); return length + 1 + below(64);
-        case 4: scribble(record, 2 * length); return below((uint16_t)(2 * length));
+        case 4: scribble(record, 2 * length); return 2 * at;
         case 5: scribble(record + ROWS_AT, length - ROWS_AT); return length;
-        case 6: put(record, 2 * (size_t)below((uint16_t)(length / 2)), below((uint16_t)(2 * s->n))); return length;
+        case 6: put(record, at / 2 * 2, below((uint16_t)(2 * s->n))); return length;
         default:
-            for (uint16_t i = below(4); i < 4; i++) record[below((uint16_t)length)] = (uint8_t)below(256);
+            for (uint16_t i = below(4); i < 4; i++) {
+                scribble(record + at, 1);
+                at = below((uint16_t)length);
+            }
             return length;
     }
 }
@@ -44,8 +50,7 @@ static size_t damage_any(struct source *s) {
 /* The next source: mostly of a few leaves. */
 static void draw_source(struct source *s) {
     s->n = (uint16_t)(1 + below(one_in(16) ? MOST_LEAVES : 12));
-    struct plan plan = {s->n, below(SHAPES), below(SHAPES), below(LINK_KINDS), below(LAYOUT_KINDS), below(HOLDS)};
-    if (one_in(2)) plan.hold = 0;
+    struct plan plan = draw_plan(s->n, one_in(2) ? 0 : below(HOLDS));
     s->length = make_record(s->good, &plan);
     memcpy(s->record, s->good, s->length);
     s->damaged = !one_in(8);
@@ -72,7 +77,7 @@ static void lend_room(struct arguments *a, int buffer, size_t bytes, size_t size
 
 /* Changes some of a list's entries, or how many there are, one time in four. */
 static void spoil_list(struct arguments *a, int buffer, size_t size) {
-    size_t count = a->count[buffer];
+    size_t count = a->count[buffer], at = count == 0 ? 0 : below((uint16_t)count);
     uint8_t *bytes = a->bytes[buffer];
     if (!one_in(4)) return;
     switch (below(6)) {
@@ -81,22 +86,22 @@ static void spoil_list(struct arguments *a, int buffer, size_t size) {
             scribble(bytes + count * size, 40 * size);
             a->count[buffer] = count + 1 + below(39);
             return;
-        case 2: a->count[buffer] = below((uint16_t)(count + 1)); return;
+        case 2: a->count[buffer] = at; return;
         case 3: scribble(bytes, count * size); return;
         case 4:
-            if (count > 1) memcpy(bytes, bytes + (1 + below((uint16_t)(count - 1))) * size, size);
+            if (at > 0) memcpy(bytes, bytes + at * size, size);
             return;
         default:
-            if (count > 0) memset(bytes + below((uint16_t)count) * size, below(2) ? 0 : 255, size);
+            if (count > 0) memset(bytes + at * size, below(2) ? 0 : 255, size);
     }
 }
 
 /* An order for a side: one that some layout of it gives, if there is one. */
 static void lend_order(struct arguments *a, int buffer, const struct source *s) {
     uint8_t turned[MOST_BYTES + 1];
-    size_t at = layout_from(s->n, TANGLE_LEFT);
+    size_t from = one_in(2) ? layout_from(s->n, TANGLE_LEFT) : bytes_over(s->n);
     memcpy(turned, s->good, bytes_over(s->n));
-    for (size_t i = at; one_in(2) && i < bytes_over(s->n); i++) turned[i] = (uint8_t)below(2);
+    for (size_t i = from; i < bytes_over(s->n); i++) turned[i] = (uint8_t)below(2);
     tangle_order(turned, bytes_over(s->n), a->side == TANGLE_RIGHT ? a->side : TANGLE_LEFT, (void *)a->bytes[buffer],
                  MOST_LEAVES);
     a->count[buffer] = s->n;
@@ -109,12 +114,13 @@ static void lend_hands(struct arguments *a, const struct source *s) {
     size_t most = one_in(64) ? TANGLE_MOST_HANDS + below(2) : below(6);
     a->count[LIST] = 0;
     for (size_t tries = 0; s->n > 1 && tries < 4 * most && a->count[LIST] < most; tries++) {
-        struct tangle_entry entry = {1u + below(2), 1u + below((uint16_t)(s->n - 1))};
+        struct tangle_entry entry = draw_entry(s->n);
         if (one_in(256) || may_turn(s->good, entry.side, entry.row)) list[a->count[LIST]++] = entry;
     }
     if (a->count[LIST] == 0 || !one_in(4)) return;
-    struct tangle_entry bad = {one_in(2) ? a->side : below(4), one_in(2) ? a->row : any_number()};
-    list[below((uint16_t)a->count[LIST])] = bad;
+    struct tangle_entry *bad = list + below((uint16_t)a->count[LIST]);
+    bad->side = one_in(2) ? a->side : below(4);
+    bad->row = one_in(2) ? a->row : any_number();
 }
 
 /* The parts of the good record, mostly as they are. */
@@ -125,7 +131,8 @@ static void lend_parts(struct arguments *a, const struct source *s) {
     a->count[LIST] = a->count[SECOND] = 2 * n - 2;
     a->count[THIRD] = n;
     a->count[FOURTH] = a->count[FIFTH] = n - 1;
-    for (int buffer = LIST; one_in(2) && buffer <= FIFTH; buffer++) spoil_list(a, buffer, buffer < FOURTH ? 2 : 1);
+    int from = one_in(2) ? LIST : BUFFERS;
+    for (int buffer = from; buffer < BUFFERS; buffer++) spoil_list(a, buffer, buffer < FOURTH ? 2 : 1);
     lend_room(a, RECORD, bytes_over(s->n), 1);
 }
 
@@ -140,7 +147,8 @@ static void lend_tree(struct arguments *a, const struct source *s, int as_text) 
         *end++ = ';';
         a->count[LIST] = (size_t)(end - text);
         spoil_list(a, LIST, 1);
-        if (one_in(8)) text[below((uint16_t)(end - text))] = "(),;:0123456789.e-"[below(18)];
+        char *letter = text + below((uint16_t)(end - text));
+        if (one_in(8)) *letter = "(),;:0123456789.e-"[below(18)];
     } else {
         put_signs((void *)a->bytes[LIST], rows, s->n);
         a->count[LIST] = 2 * ((size_t)s->n - 1);

@@ -23,6 +23,22 @@ struct plan {
     size_t hold;
 };
 
+/* Any plan for n leaves under a hold. Draws are made one after the other, here and elsewhere, since C does not say
+ * which of two in one expression comes first. */
+static inline struct plan draw_plan(uint16_t n, size_t hold) {
+    struct plan plan = {n, below(SHAPES), 0, 0, 0, hold};
+    plan.right = below(SHAPES);
+    plan.links = below(LINK_KINDS);
+    plan.layouts = below(LAYOUT_KINDS);
+    return plan;
+}
+
+/* Any row of either side of n leaves, at least 2. */
+static inline struct tangle_entry draw_entry(uint16_t n) {
+    uint32_t side = 1u + below(2);
+    return (struct tangle_entry){side, 1u + below((uint16_t)(n - 1))};
+}
+
 static inline size_t bytes_over(uint16_t n) { return 12 * (size_t)n - 2; }
 
 static inline uint16_t leaves_of(const uint8_t *record) {
@@ -77,19 +93,19 @@ static inline size_t make_record(uint8_t *record, const struct plan *plan) {
 /* Damages a good record so that this refusal, from 1 to 10, is due, and answers its new length. A single leaf has no
  * rows and no layout, and so no 7, 8 and 10. One byte beyond the record is used. */
 static inline size_t damage(uint8_t *record, uint32_t refusal) {
-    uint16_t n = leaves_of(record);
-    size_t length = bytes_over(n);
+    uint16_t n = leaves_of(record), either = below(2);
+    size_t length = bytes_over(n), entry = n == 1 ? 0 : below((uint16_t)(2 * n - 2)), leaf = below(n);
     switch (refusal) {
         case TANGLE_SHORT: return below(8);
         case TANGLE_MARK: record[below(3)] ^= 1; break;
-        case TANGLE_VERSION: record[3 + below(2)] ^= 2; break;
+        case TANGLE_VERSION: record[3 + either] ^= 2; break;
         case TANGLE_HOLD: record[HOLD_AT] ^= 32; break;
-        case TANGLE_SIZE: put(record, SIZE_AT, below(2) ? 0 : MOST_LEAVES + 1); break;
-        case TANGLE_LENGTH: record[length] = 0; return below(2) ? length + 1 : length - 1;
-        case TANGLE_LEFT_ROW: put(record, ROWS_AT + 2 * (size_t)below((uint16_t)(2 * n - 2)), 0); break;
-        case TANGLE_RIGHT_ROW: put(record, 4 * (size_t)n + 4 + 2 * (size_t)below((uint16_t)(2 * n - 2)), 0); break;
-        case TANGLE_LINKS: put(record, 8 * (size_t)n + 2 * (size_t)below(n), (uint16_t)(below(2) ? 0 : n + 1)); break;
-        case TANGLE_LAYOUT: record[layout_from(n, 1) + below((uint16_t)(2 * n - 2))] = (uint8_t)(4 + below(252)); break;
+        case TANGLE_SIZE: put(record, SIZE_AT, either ? 0 : MOST_LEAVES + 1); break;
+        case TANGLE_LENGTH: record[length] = 0; return either ? length + 1 : length - 1;
+        case TANGLE_LEFT_ROW: put(record, ROWS_AT + 2 * entry, 0); break;
+        case TANGLE_RIGHT_ROW: put(record, 4 * (size_t)n + 4 + 2 * entry, 0); break;
+        case TANGLE_LINKS: put(record, 8 * (size_t)n + 2 * leaf, (uint16_t)(either ? 0 : n + 1)); break;
+        case TANGLE_LAYOUT: record[layout_from(n, TANGLE_LEFT) + entry] = (uint8_t)(4 + below(252)); break;
     }
     return length;
 }

@@ -1,7 +1,8 @@
 /* What a reset may leave of a record in the middle of a call. `fault_in` looks at the record as it is at an instant,
- * beside the one before the call and the one that the call leaves, and answers the first thing that is wrong. It judges
- * by docs/CALLS.md and docs/RECORD.md; the calls themselves are asked only whether the record is accepted, and whether
- * the same call again mends it. */
+ * beside the one before the call and the one that the call leaves, and answers the first thing that is wrong;
+ * `mixed_fault` does so where the call's stores may have reached memory in any order. Both judge by docs/CALLS.md and
+ * docs/RECORD.md; the calls themselves are asked only whether the record is accepted, and whether the same call again
+ * mends it. */
 #ifndef STATES_H
 #define STATES_H
 
@@ -78,8 +79,8 @@ static int is_mended(const struct watched *w, const uint8_t *now) {
     return w->job->call->make(copy, w->job) == w->refusal && memcmp(copy, w->after, w->job->length) == 0;
 }
 
-/* The record is looked at in a copy: it is shared with the process that is stepped. */
-static struct fault fault_in(struct watched *w, const uint8_t *now) {
+/* What is wrong with a record in which some bytes are as before the call and some as it leaves them. */
+static struct fault mixed_fault(const struct watched *w, const uint8_t *now) {
     const struct job *job = w->job;
     for (size_t i = 0; i < job->length; i++) {
         const char *what = value_fault(w, i, now[i]);
@@ -87,10 +88,17 @@ static struct fault fault_in(struct watched *w, const uint8_t *now) {
     }
     if (w->refusal != TANGLE_ACCEPTED) return (struct fault){NULL, 0};
     if (tangle_check(now, job->length).refusal != 0) return (struct fault){"a record that is not accepted", 0};
-    if (job->call->rules & LISTS && !is_handed(w, now)) return (struct fault){"no first part of the hand list", 0};
     if (job->call->rules & AGAIN && !is_mended(w, now))
         return (struct fault){"the same call again leaves something else", 0};
     return (struct fault){NULL, 0};
+}
+
+/* What is wrong with the record at an instant. It is looked at in a copy: it is shared with the stepped process. */
+static struct fault fault_in(struct watched *w, const uint8_t *now) {
+    struct fault fault = mixed_fault(w, now);
+    if (fault.what == NULL && w->refusal == 0 && w->job->call->rules & LISTS && !is_handed(w, now))
+        fault.what = "no first part of the hand list";
+    return fault;
 }
 
 #endif

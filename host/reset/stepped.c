@@ -25,7 +25,7 @@ static void fill_list(struct job *job, const uint8_t *made, size_t most) {
     uint16_t n = leaves_of(made);
     job->entries = 0;
     for (size_t tries = 0; n > 1 && tries < 2 * most && job->entries < most; tries++) {
-        struct tangle_entry entry = {1u + below(2), 1u + below((uint16_t)(n - 1))};
+        struct tangle_entry entry = draw_entry(n);
         if (may_turn(made, entry.side, entry.row)) job->list[job->entries++] = entry;
     }
 }
@@ -60,13 +60,28 @@ static uint32_t expected(const struct job *job, const uint8_t *made) {
     return job->call == calls + PIN && leaves_of(made) == 1 ? TANGLE_ROW : 0;
 }
 
+enum { MIXTURES = 4 };
+
 static struct watched watched;
-static struct tally { unsigned long calls, refused, steps, states; } tallies[CALLS][2];
+static struct tally { unsigned long calls, refused, steps, states, mixtures; } tallies[CALLS][2];
 static int failures;
 
 static void tell(const char *name, const struct plan *plan, const struct seen *seen) {
     printf("%s over %u leaves, hold %c, state %lu: byte %zu: %s\n", name, (unsigned)plan->n, holds[plan->hold],
            seen->at, seen->fault.byte, seen->fault.what);
+}
+
+/* Any of the bytes that a call has changed as they were, and the others as it leaves them: what is there after a reset
+ * where stores reach memory in another order, or wide ones in part. Answers how many such records were looked at. */
+static unsigned long look_at_mixtures(struct fault *fault) {
+    uint8_t mixed[MOST_BYTES + 1];
+    size_t length = watched.job->length;
+    if (memcmp(watched.before, watched.after, length) == 0) return 0;
+    for (int i = 0; i < MIXTURES; i++) {
+        for (size_t k = 0; k < length; k++) mixed[k] = (below(2) ? watched.before : watched.after)[k];
+        if (fault->what == NULL) *fault = mixed_fault(&watched, mixed);
+    }
+    return MIXTURES;
 }
 
 /* Steps the job on stage and counts what was seen. */
@@ -76,6 +91,7 @@ static void stepped_job(const struct plan *plan, const uint8_t *made, int way, u
     stage->at = below(64);
     struct seen seen = step(&watched, made, way, (int)(tally->calls % COPIES));
     if (seen.fault.what == NULL && watched.refusal != refusal) seen.fault.what = "another refusal than the one due";
+    tally->mixtures += look_at_mixtures(&seen.fault);
     if (seen.fault.what != NULL) tell(call->name, plan, &seen);
     failures += seen.fault.what != NULL;
     tally->calls++;
@@ -99,7 +115,7 @@ static void step_record(const struct plan *plan, int way) {
 /* Records over n leaves, so many for each hold. */
 static void step_size(uint16_t n, size_t records, int way) {
     for (size_t i = 0; i < records * HOLDS; i++) {
-        struct plan plan = {n, below(SHAPES), below(SHAPES), below(LINK_KINDS), below(LAYOUT_KINDS), i % HOLDS};
+        struct plan plan = draw_plan(n, i % HOLDS);
         step_record(&plan, way);
     }
 }
@@ -150,7 +166,7 @@ static void step_bad_records(const struct plan *plan, int way) {
 
 static void print_tallies(void) {
     static const char *const ways[] = {"whole", "stores"};
-    unsigned long states = 0;
+    unsigned long states = 0, mixtures = 0;
     printf("%-6s %-7s %7s %8s %13s %8s\n", "call", "stepped", "calls", "refused", "instructions", "states");
     for (int call = 0; call < CALLS; call++)
         for (int way = WHOLE; way <= STORES; way++) {
@@ -158,8 +174,10 @@ static void print_tallies(void) {
             printf("%-6s %-7s %7lu %8lu %13lu %8lu\n", calls[call].name, ways[way], tally->calls, tally->refused,
                    tally->steps, tally->states);
             states += tally->states;
+            mixtures += tally->mixtures;
         }
-    printf("a reset at any instant: %lu states looked at, %d wrong\n", states, failures);
+    printf("a reset at any instant: %lu states looked at, and %lu mixtures of old and new bytes; %d calls wrong\n",
+           states, mixtures, failures);
 }
 
 /* All sizes, and what is refused. */
@@ -181,12 +199,13 @@ static void step_all(void) {
 }
 
 int main(int count, char **words) {
-    int shortly = count > 1 && strcmp(words[1], "short") == 0;
+    long leaves = count > 1 ? strtol(words[1], NULL, 10) : 0;
     start_stepping();
-    if (shortly) step_size(16, 3, STORES);
-    else step_all();
+    if (count == 1) step_all();
+    else if (leaves > 0 && leaves <= MOST_LEAVES) step_size((uint16_t)leaves, 1, WHOLE);
+    else step_size(16, 3, STORES);
     print_tallies();
-    if (!shortly) failures += step_wrong_versions();
+    if (count == 1) failures += step_wrong_versions();
     end_stepping();
     return failures != 0;
 }

@@ -12,6 +12,7 @@
 #include <sys/mman.h>
 #include <sys/ptrace.h>
 #include <sys/wait.h>
+#include <ucontext.h>
 #include <unistd.h>
 
 #include "states.h"
@@ -65,12 +66,9 @@ static void on_store(int number, siginfo_t *info, void *context) {
         _exit(3);
 }
 
-/* The process that is stepped: makes one job after the other, and stops before each. Its stack begins at a page, so
- * that every run of the program steps the same instructions. */
+/* The process that is stepped: makes one job after the other, and stops before each. */
 static void make_jobs(void) {
-    _Alignas(4096) volatile uint8_t ground = PAINT;
     struct sigaction action = {.sa_sigaction = on_store, .sa_flags = SA_SIGINFO};
-    (void)ground;
     if (sigaction(SIGSEGV, &action, NULL) != 0 || ptrace(PTRACE_TRACEME, 0, NULL, NULL) != 0) _exit(4);
     for (;;) {
         kill(getpid(), SIGSTOP);
@@ -79,6 +77,17 @@ static void make_jobs(void) {
         stage->refusal = stage->job.call->make(lent(), &stage->job);
         stage->inside = 0;
     }
+}
+
+/* Its stack stands at the same place in every run of the program, so that every run steps the same instructions. */
+static void make_jobs_apart(void) {
+    static _Alignas(4096) uint8_t stack[1 << 17];
+    static ucontext_t apart;
+    getcontext(&apart);
+    apart.uc_stack.ss_sp = stack;
+    apart.uc_stack.ss_size = sizeof stack;
+    makecontext(&apart, make_jobs, 0);
+    setcontext(&apart);
 }
 
 /* Lets it go on, by one instruction or until it stops, and answers the signal that it stopped with. */
@@ -105,7 +114,7 @@ static void start_stepping(void) {
     if (stage == MAP_FAILED || pages == MAP_FAILED) give_up("mmap");
     stepped = fork();
     if (stepped < 0) give_up("fork");
-    if (stepped == 0) make_jobs();
+    if (stepped == 0) make_jobs_apart();
     if (waitpid(stepped, &status, 0) != stepped || !WIFSTOPPED(status)) give_up("waitpid");
     if (ptrace(PTRACE_SETOPTIONS, stepped, NULL, (void *)PTRACE_O_EXITKILL) != 0) give_up("ptrace");
 }
