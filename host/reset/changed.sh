@@ -1,10 +1,10 @@
 #!/usr/bin/env bash
-# changed.sh [made]: changed copies of the calls' own module, stepped as the calls are (host/reset/test.sh, which has made
-# the module): what is wrong for an instant only must be found in the real code too. The module is taken as text, stores
-# are added where it writes a record, and it is compiled for this machine as the kit compiles it. Unchanged it must pass.
-# With layout bytes and the hold written through a wrong value every call must be found; with the other side's first row
-# turned over and back, free, hands and pin must be found where that side is held. Prints a line for each; ends with 1 if
-# one is not as it must be.
+# changed.sh [made]: changed copies of the calls' own module, stepped as the calls are (host/reset/test.sh, which has
+# made the module then): what is wrong for an instant only must be found in the real code too. The module is taken as
+# text, stores are added where it writes a record, and it is compiled for this machine as the kit compiles it. Unchanged
+# it must pass. With layout bytes and the hold written through a wrong value every call must be found; with the other
+# side's first row turned over and back, free, hands and pin must be found where that side is held. Prints a line for
+# each; ends with 1 if one is not as it must be.
 . "$(dirname "$0")/../archive.sh"
 own_compiler
 needs objcopy -- binutils

@@ -1,13 +1,14 @@
-/* stepped [short]: a reset at any instant. The calls that change a record are stepped instruction by instruction
- * (stepping.h), and the record is looked at whenever a byte of it has changed (states.h): accepted and refused calls,
- * on records of many shapes and sizes, under all four holds, and wrong versions of the calls, which must be found. In
- * short, for changed copies of the calls, only a few records. Prints how many states were looked at; ends with 1 if one
- * is wrong or a wrong version is not found. */
+/* stepped [short | LEAVES]: a reset at any instant. The calls that change a record are stepped instruction by
+ * instruction (stepping.h), and the record is looked at whenever a byte of it has changed (states.h): accepted and
+ * refused calls, on records of many shapes and sizes, under all four holds, and wrong versions of the calls, which must
+ * be found. In short, for changed copies of the calls, only a few records; by hand, records over so many leaves, each
+ * call from its first instruction on. Prints how many states were looked at; ends with 1 if one is wrong, or a wrong
+ * version is not found. */
 #define _GNU_SOURCE
 #include "stepping.h"
 #include "wrong_stepped.h"
 
-/* The calls' arguments, one after the other: the job for a record in `variant`, or 0 where there are no more. */
+/* A call's arguments for a record, one variant after the other; 0 is answered where there are no more. */
 static int free_job(struct job *job, const uint8_t *made, int variant) {
     (void)made;
     job->side = variant == 0 ? TANGLE_LEFT : TANGLE_RIGHT;
@@ -24,14 +25,16 @@ static int run_job(struct job *job, const uint8_t *made, int variant) {
 static void fill_list(struct job *job, const uint8_t *made, size_t most) {
     uint16_t n = leaves_of(made);
     job->entries = 0;
-    for (size_t tries = 0; n > 1 && tries < 2 * most && job->entries < most; tries++) {
+    for (size_t tries = 0; n > 1 && tries < 8 * most && job->entries < most; tries++) {
         struct tangle_entry entry = draw_entry(n);
         if (may_turn(made, entry.side, entry.row)) job->list[job->entries++] = entry;
     }
 }
 
+/* One entry, and several; the longest list that there may be only under one hold, since it takes long. */
 static int hands_job(struct job *job, const uint8_t *made, int variant) {
-    fill_list(job, made, variant == 0 ? 1 : leaves_of(made) < 64 ? 8 : 100);
+    int longest = leaves_of(made) == MOST_LEAVES && made[HOLD_AT] == TANGLE_HOLD_NONE;
+    fill_list(job, made, variant == 0 ? 1 : longest ? TANGLE_MOST_HANDS : leaves_of(made) < 64 ? 8 : 100);
     return variant < 2;
 }
 
@@ -171,6 +174,7 @@ static void print_tallies(void) {
     for (int call = 0; call < CALLS; call++)
         for (int way = WHOLE; way <= STORES; way++) {
             const struct tally *tally = &tallies[call][way];
+            if (tally->calls == 0) continue;
             printf("%-6s %-7s %7lu %8lu %13lu %8lu\n", calls[call].name, ways[way], tally->calls, tally->refused,
                    tally->steps, tally->states);
             states += tally->states;

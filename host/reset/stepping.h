@@ -19,8 +19,7 @@
 
 enum { WHOLE, STORES };
 
-/* How bytes are copied for the calls: as C's memcpy does it here, or one by one, the first or the last of them first.
- */
+/* How bytes are copied for the calls: as C's memcpy does it here, or one by one, the first or the last one first. */
 enum { AS_HERE, UPWARDS, DOWNWARDS, COPIES };
 
 /* What both processes see: the job, where its record stands, how it is made, whether it is being made, and what it
