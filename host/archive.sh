@@ -19,8 +19,8 @@ keeping_kit() { # FOLDER FILE
   chmod +x "$to/on/$machine/toolchain/bin/clang"
 }
 
-# Where ARCHIVES names a folder, as host/test/run.sh does, an archive that was made in that run is not made again, and its
-# module is always kept, since a later script may ask for it.
+# Where ARCHIVES names a folder, as host/test/run.sh does, an archive that was made in that run is not made again, and
+# its module is always kept, since a later script may ask for it.
 archive() { # NAME [module]
   local home=${RATTLE_HOME:-}
   if [ -n "${ARCHIVES:-}" ] && [ -e "$ARCHIVES/$1" ]; then return; fi

@@ -71,7 +71,12 @@ found() {
   done
 }
 
-for name in unchanged through back; do with_text "$name"; done
+compiling=()
+for name in unchanged through back; do
+  with_text "$name" &
+  compiling+=($!)
+done
+for process in "${compiling[@]}"; do wait "$process"; done
 "$out/unchanged" short > "$out/unchanged.txt" || { cat "$out/unchanged.txt"; exit 1; }
 found through 'a layout byte above 3' free run hands pin
 found through 'a hold neither old nor new' hold

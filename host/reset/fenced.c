@@ -5,7 +5,7 @@
 #define _GNU_SOURCE
 #include "wrong_fenced.h"
 
-enum { DAMAGED = 200000 };
+enum { DAMAGED = 120000 };
 
 static unsigned long damaged, still_accepted, numbers[NUMBERS];
 static struct { unsigned long made, refused; } tallies[EXPORTS];
@@ -40,16 +40,13 @@ static int print_tallies(void) {
         refused += tallies[i].refused;
         missing += tallies[i].refused == 0 || tallies[i].refused == tallies[i].made;
     }
-    printf("refusals");
     for (int i = 1; i < NUMBERS; i++) {
-        printf(" %d:%lu", i, numbers[i]);
+        printf("%s %d:%lu", i == 1 ? "refusals" : i == NUMBERS / 2 ? "\n        " : "", i, numbers[i]);
         missing += numbers[i] == 0;
     }
-    printf(
-        "\nbeside memory that can't be touched, seed %lu: %lu records, %lu damaged (%lu of these still records), %lu "
-        "calls, "
-        "%lu refused, none wrong; %d numbers or calls not reached\n",
-        seed, records, damaged, still_accepted, made, refused, missing);
+    printf("\nbeside memory that can't be touched, seed %lu: %lu records, %lu damaged (%lu of these still records)\n",
+           seed, records, damaged, still_accepted);
+    printf("%lu calls, %lu refused, none wrong; %d numbers or calls not reached\n", made, refused, missing);
     return missing;
 }
 

@@ -190,7 +190,7 @@ static void step_all(void) {
         uint16_t n;
         size_t whole, stores; /* records for each hold */
     } sizes[] = {{1, 1, 2}, {2, 1, 4},  {3, 1, 4},  {4, 1, 4},   {5, 1, 4},
-                 {8, 1, 4}, {16, 1, 4}, {64, 0, 4}, {511, 0, 4}, {512, 0, 4}};
+                 {8, 1, 4}, {16, 1, 4}, {64, 0, 4}, {511, 0, 2}, {512, 0, 3}};
     for (size_t i = 0; i < sizeof sizes / sizeof *sizes; i++) {
         step_size(sizes[i].n, sizes[i].whole, WHOLE);
         step_size(sizes[i].n, sizes[i].stores, STORES);

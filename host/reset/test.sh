@@ -1,10 +1,10 @@
 #!/usr/bin/env bash
 # test.sh [SEED]: a reset at any instant, and memory that can't be touched. `stepped` steps the calls that change a
 # record instruction by instruction and looks at the record whenever a byte of it has changed; host/reset/changed.sh
-# does so with changed copies of the calls; `fenced` makes all twenty calls with every lent buffer right before and right
-# after memory that can't be touched, on damaged records by a seed, 1 if none is given. Both programs also try wrong
-# versions of the calls, which must be found. Prints what was looked at, and the seconds; ends with 1 if anything is
-# wrong. Runs on x86-64 on the archive's own code, and on Arm on the same module compiled for Arm.
+# does so with changed copies of the calls; `fenced` makes all twenty calls with every lent buffer right before and
+# right after memory that can't be touched, on damaged records by a seed, 1 if none is given. Both programs also try
+# wrong versions of the calls, which must be found. Prints what was looked at, and the seconds; ends with 1 if anything
+# is wrong. Runs on x86-64 on the archive's own code, and on Arm on the same module compiled for Arm.
 . "$(dirname "$0")/../archive.sh"
 own_compiler
 needs objcopy -- binutils
