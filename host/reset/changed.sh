@@ -29,12 +29,13 @@ turn_and_back='define internal void @turn_and_back(ptr %lent, i16 %n, i16 %side)
 # changed FUNCTION PATTERN LINES: standard input with these lines before the last line of that function that has the
 # pattern; POINTER in them is what that line stores to.
 changed() {
-  awk -v name="@\"$1\"(" -v pattern="$2" -v lines="$3" '
+  name="@\"$1\"(" pattern=$2 lines=$3 awk '
+    BEGIN { name = ENVIRON["name"]; pattern = ENVIRON["pattern"]; lines = ENVIRON["lines"] }
     { line[NR] = $0 }
     /^define / { inside = index($0, name) > 0 }
     inside && $0 ~ pattern { at = NR }
     END {
-      if (!at) exit 1
+      if (!at) { print "changed: nothing to change in " name > "/dev/stderr"; exit 1 }
       if (match(line[at], /ptr %[a-z0-9]+, align/))
         gsub(/POINTER/, substr(line[at], RSTART + 4, RLENGTH - 11), lines)
       for (i = 1; i <= NR; i++) { if (i == at) print lines; print line[i] }

@@ -1,7 +1,6 @@
 /* The calls that change a record, in one form: a job is a call with its arguments. Each says how it is made, and which
  * bytes of a record it may change, worked out from the arguments and the record as it was and not by the calls. A later
- * call that changes a record joins here: a function for each of the two, a line in `calls`, and its jobs in jobs_for.
- */
+ * call that changes a record joins here, by a function for each of the two and a line in `calls`. */
 #ifndef JOBS_H
 #define JOBS_H
 
