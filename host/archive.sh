@@ -19,11 +19,12 @@ keeping_kit() { # FOLDER FILE
   chmod +x "$to/on/$machine/toolchain/bin/clang"
 }
 
-# Where ARCHIVES names a folder, as host/test/run.sh does, an archive that was made in that run is not made again.
+# Where ARCHIVES names a folder, as host/test/run.sh does, an archive that was made in that run is not made again, and
+# its module is always kept, since a later script may ask for it.
 archive() { # NAME [module]
   local home=${RATTLE_HOME:-}
   if [ -n "${ARCHIVES:-}" ] && [ -e "$ARCHIVES/$1" ]; then return; fi
-  if [ "$machine" != x86_64 ] || [ "${2:-}" = module ]; then
+  if [ "$machine" != x86_64 ] || [ -n "${2:-}${ARCHIVES:-}" ]; then
     home=$PWD/target/measure/kit
     keeping_kit "$home" "$PWD/target/measure/$1.bc"
   fi
@@ -42,19 +43,26 @@ linked() { # PROGRAM ARCHIVE FILE..
   "${tool}gcc" "${strict[@]}" -static -o "$program" "$@" "$archive"
 }
 
+# A module as text; on another machine than x86-64 without what names that: its layout of data, its name, its processor.
+module_text() { # MODULE TEXT
+  "$toolchain/bin/clang" --no-default-config --target=x86_64-unknown-linux-gnu -S -emit-llvm -O3 \
+    -Xclang -disable-llvm-passes -x ir "$1" -o "$2"
+  [ "$machine" = x86_64 ] || sed -i -e '/^target /d' -e 's/ "target-cpu"="x86-64"//' "$2"
+}
+
+# A module's text compiled for this machine, by the kit's compiler and as the kit compiles it (-O3).
+text_object() { # TEXT OBJECT
+  "$toolchain/bin/clang" --no-default-config "--target=$machine-unknown-linux-gnu" -ffunction-sections -fdata-sections \
+    -fPIC -O3 -Werror -Wno-override-module -c -x ir "$1" -o "$2"
+}
+
 # An archive's functions as one object for this machine. The archive is for x86-64 and is taken as it is there. On Arm,
-# whose emulator's times say nothing, the same LLVM module is compiled for Arm, by the kit's compiler and as the kit
-# compiles it (-O3).
+# whose emulator's times say nothing, the same LLVM module is compiled for Arm.
 object_here() { # ARCHIVE MODULE OBJECT
-  local compiler=$toolchain/bin/clang
   if [ "$machine" = x86_64 ]; then
     ar p "$1" > "$3" # its only member
     return
   fi
-  # As text, without what names x86-64: its layout of data, its name, and its processor.
-  "$compiler" --no-default-config --target=x86_64-unknown-linux-gnu -S -emit-llvm -O3 -Xclang -disable-llvm-passes \
-    -x ir "$2" -o "$3.ll"
-  sed -i -e '/^target /d' -e 's/ "target-cpu"="x86-64"//' "$3.ll"
-  "$compiler" --no-default-config "--target=$machine-unknown-linux-gnu" -ffunction-sections -fdata-sections -fPIC \
-    -O3 -Werror -Wno-override-module -c -x ir "$3.ll" -o "$3"
+  module_text "$2" "$3.ll"
+  text_object "$3.ll" "$3"
 }

@@ -10,13 +10,15 @@
 
 typedef void rows_t(uint16_t *rows, uint16_t n);
 
+/* Where `below` stands; a program that takes a seed sets it, to anything but 0. */
+static uint32_t drawn = 2463534242;
+
 /* A number below `most`, the same ones in every run of the program. */
 static inline uint16_t below(uint16_t most) {
-    static uint32_t state = 2463534242;
-    state ^= state << 13;
-    state ^= state >> 17;
-    state ^= state << 5;
-    return (uint16_t)(state % most);
+    drawn ^= drawn << 13;
+    drawn ^= drawn >> 17;
+    drawn ^= drawn << 5;
+    return (uint16_t)(drawn % most);
 }
 
 /* Upper deep: (1,2), (n+1,3), (n+2,4), .. with the order 1 to n. */
@@ -59,7 +61,7 @@ static inline void joined(uint16_t *rows, uint16_t n) {
 
 /* Adds an object of a tree to a text, with a length of so many digits after every subtree, or without lengths if these
  * are 0; answers the text's new end. */
-static char *spell(char *end, const uint16_t *rows, uint16_t n, uint16_t object, size_t digits) {
+static inline char *spell(char *end, const uint16_t *rows, uint16_t n, uint16_t object, size_t digits) {
     if (object <= n) {
         end += sprintf(end, "%u", (unsigned)object);
     } else {

@@ -1,8 +1,8 @@
 #!/usr/bin/env bash
 # All host tests, after rt has proved the crates. Two groups go on at a time: the peer's own tests, then desk and sheet
-# beside the peer; and the C boundary, then the stack, code and data of the calls. What they print stays in this order.
-# Then speed, by itself. Ends with 1 if one of them fails, and prints a group that failed last. What is missing is
-# installed before the groups, since only one can install at a time.
+# beside the peer; and the C boundary, then the stack, code and data of the calls, then a reset at any instant. What
+# they print stays in this order. Then speed, by itself. Ends with 1 if one of them fails, and prints a group that
+# failed last. What is missing is installed before the groups, since only one can install at a time.
 . "$(dirname "$0")/../tools.sh"
 x86_tools
 own_compiler
@@ -22,6 +22,7 @@ for_the_device() {
   bash host/viewer/test.sh
   bash host/measure/size.sh
   cat target/measure/calls.txt
+  bash host/reset/test.sh
 }
 
 (set -e; for_the_device) > target/test/device.log 2>&1 &
