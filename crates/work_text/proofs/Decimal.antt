@@ -21,11 +21,11 @@ use Rattle.work_text.specs.Decimal.{digitsWithin, decimal, said}
 module _ (most x : ℕ) where
   one-digit : x < 10 → digitsWithin (suc most) x ≡ (48 + x) ∷ []
   unfolding digitsWithin
-  one-digit h = rw (lt-ltb x 10 h) refl
+  one-digit h = ap (λ b. cond b ((48 + x) ∷ []) (digitsWithin most (x / 10) ++ ((48 + x % 10) ∷ []))) (lt-ltb x 10 h)
 
   more-digits : 10 ≤ x → digitsWithin (suc most) x ≡ digitsWithin most (x / 10) ++ ((48 + x % 10) ∷ [])
   unfolding digitsWithin
-  more-digits h = rw (le-ltb x 10 h) refl
+  more-digits h = ap (λ b. cond b ((48 + x) ∷ []) (digitsWithin most (x / 10) ++ ((48 + x % 10) ∷ []))) (le-ltb x 10 h)
 
 -- a number below 10 to the n + 1 has a tenth part below 10 to the n
 tenth : (n x : ℕ) → x < 10 ^ suc n → x / 10 < 10 ^ n
