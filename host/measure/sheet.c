@@ -1,5 +1,6 @@
 /* The program sheet as rt compiled it, run on a painted stack: its main is called here, it reads a record of 512 leaves
- * from memory, and what it writes is counted. Prints the peak stack, the longest line and the longest sheet. */
+ * from memory, and what it writes is counted. With LINKED it is the call for a line, tangle_line, that is asked for the
+ * eight lines. Prints the peak stack, the longest line and the longest sheet. */
 #include <stdlib.h>
 #include <sys/types.h>
 
@@ -11,6 +12,7 @@ enum { leaves = 512, length = 12 * leaves - 2, lines = 8 };
 extern int sheet_main(void);
 extern ssize_t sheet_read(int fd, void *to, size_t most);
 extern ssize_t sheet_write(int fd, const void *from, size_t many);
+extern size_t tangle_line(uint8_t *s, size_t bytes, size_t k, uint8_t *out);
 
 static uint8_t record[length];
 static size_t at, line, longest, written, most_written;
@@ -61,9 +63,17 @@ static void from_the_start(void) {
     at = line = written = 0;
 }
 
+#ifdef LINKED
+static void run(void) {
+    static uint8_t lent[length], out[1942];
+    sheet_read(0, lent, length);
+    for (size_t k = 1; k <= lines; k++) sheet_write(1, out, tangle_line(lent, length, k, out));
+}
+#else
 static void run(void) {
     sheet_main();
 }
+#endif
 
 int main(void) {
     rows_t *shapes[] = {upper_deep, lower_deep, balanced, joined};
