@@ -19,6 +19,7 @@ pub mod TakenOrders
 pub mod TakeIn
 pub mod SheetLines
 pub mod SheetLength
+pub mod SheetCut
 pub mod Sheet
 pub mod Examples
 pub mod TakeInTried

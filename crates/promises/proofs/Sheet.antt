@@ -12,12 +12,14 @@ use Rattle.promises.proofs.HeldStays.{keeps-same, held-stays}
 use Rattle.promises.proofs.PinnedStays.{pins-same, pinned-stays}
 use Rattle.promises.proofs.SheetLines.{in-order, one-sheet, one-outcome, kept, run-left, run-leaves, told, an-outcome, line-leaves}
 use Rattle.promises.proofs.SheetLength.{sheet-most}
+use Rattle.promises.proofs.SheetCut.{cut-sheet}
 
 pub sheet : Sheet.SheetPromise
 sheet = record {
   in-order = in-order;
   one-sheet = one-sheet;
   most = λ s text p. rw (p .says) (sheet-most s (p .third) (p .third-told));
+  cut = λ s text long p. cut-sheet s long text p;
   one-outcome = one-outcome;
   kept = λ s k out a x s′ p h. kept k p h;
   ran = λ s out a x s′ answer s″ p q. run-left p ∙ sym (run-leaves s q);

@@ -136,7 +136,7 @@ else-most : (m k r : ℕ) → k ≤ m → r ≤ m → orElse k r ≤ m
 else-most m zero r p q = q
 else-most m (suc k) r p q = p
 
-heading-number : (s : List ℕ) → headingRefusal s ≤ 6
+pub heading-number : (s : List ℕ) → headingRefusal s ≤ 6
 unfolding headingRefusal
 heading-number s =
     when-most 6 1 _ (ltb (length s) 8) (omega arith)

@@ -34,6 +34,8 @@ pub record SheetPromise : Type 0 where
   pub in-order : (s text : List ℕ) → Printed s 1 text → Sheet s text
   pub one-sheet : (s a b : List ℕ) → Sheet s a → Sheet s b → a ≡ b
   pub most : (s text : List ℕ) → Sheet s text → length text ≤ 7832
+  -- Of input longer than any record it is enough to read 6,143 bytes, one more than the longest one has: their sheet is that of the whole.
+  pub cut : (s text : List ℕ) → 6143 ≤ length s → Sheet (take 6143 s) text → Sheet s text
   -- Asking for a line has one outcome: the answer, the memory and the record.
   pub one-outcome : (s : List ℕ) (k : ℕ) (out : List ℕ) (a b : ℕ) (x y s₁ s₂ : List ℕ) →
       SaysLine s k out a x s₁ → SaysLine s k out b y s₂ → (a ≡ b) × (x ≡ y) × (s₁ ≡ s₂)
