@@ -20,6 +20,7 @@ pub mod TakeIn
 pub mod SheetLines
 pub mod SheetLength
 pub mod SheetCut
+pub mod SheetNumbers
 pub mod Sheet
 pub mod Examples
 pub mod TakeInTried

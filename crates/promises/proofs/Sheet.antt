@@ -13,6 +13,7 @@ use Rattle.promises.proofs.PinnedStays.{pins-same, pinned-stays}
 use Rattle.promises.proofs.SheetLines.{in-order, one-sheet, one-outcome, kept, run-left, run-leaves, told, an-outcome, line-leaves}
 use Rattle.promises.proofs.SheetLength.{sheet-most}
 use Rattle.promises.proofs.SheetCut.{cut-sheet}
+use Rattle.promises.proofs.SheetNumbers.{as-in-newick}
 
 pub sheet : Sheet.SheetPromise
 sheet = record {
@@ -25,5 +26,11 @@ sheet = record {
   ran = λ s out a x s′ answer s″ p q. run-left p ∙ sym (run-leaves s q);
   held-stays = λ s k out a x s′ p. line-leaves s (Keeps s) (keeps-same s) (held-stays .run s mostTurns (told s) _ (an-outcome s)) p;
   pinned-stays = λ s k out a x s′ p. line-leaves s (PinsKept s) (pins-same s) (pinned-stays .run s mostTurns (told s) _ (an-outcome s)) p;
-  numbers = record { reads-back = reads-back; zero-alone = zero-alone; no-zero-first = no-zero-first; each-digit = each-digit };
+  numbers = record {
+    reads-back = reads-back;
+    zero-alone = zero-alone;
+    no-zero-first = no-zero-first;
+    each-digit = each-digit;
+    as-in-newick = as-in-newick;
+  };
 }

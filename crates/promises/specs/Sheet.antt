@@ -6,6 +6,7 @@ use mathlib.Core.Logic.{_≢_}
 use mathlib.Core.List.{List, [], _∷_, _++_}
 use lib.ListN.{length, take, getD}
 use Rattle.tanglegram.specs.Lists.{Each}
+use Rattle.newick.specs.Writing as newick
 use Rattle.work_text.specs.Decimal.{decimal, said}
 use Rattle.record_fields.specs.Fields.{mostTurns}
 use Rattle.calls_turns.specs.declared.answers.Ran.{Ran}
@@ -28,6 +29,8 @@ pub record Numbers : Type 0 where
   pub zero-alone : decimal 0 ≡ 48 ∷ []
   pub no-zero-first : (x : ℕ) → x < 10 ^ 20 → x ≢ 0 → getD (decimal x) 0 0 ≢ 48
   pub each-digit : (x : ℕ) → x < 10 ^ 20 → Each (λ d. (48 ≤ d) × (d ≤ 57)) (decimal x)
+  -- A leaf's number is spelled alike in a sheet and in Newick text.
+  pub as-in-newick : (a : ℕ) → a < 1000 → newick.decimal a ≡ decimal a
 
 pub record SheetPromise : Type 0 where
   -- The eight lines, asked for in their order, are the sheet; there is one sheet of any bytes, of at most 7,832 bytes.
