@@ -81,7 +81,9 @@ module _ (s : List ℕ) (k : ℕ) {out out′ : List ℕ} {r : ℕ} (long : leng
         third-told = t;
         answers = many;
         within = omega (arith, p .within);
-        writes = p .writes ∙ sets-front out (lineText s third k) (omega (arith, p .within)) ∙ ap (λ n. lineText s third k ++ drop n out) (sym many);
+        writes =
+            p .writes ∙ sets-front out (lineText s third k) (omega (arith, p .within))
+            ∙ ap (λ n. lineText s third k ++ drop n out) (sym many);
         leaves = e;
       }
 
@@ -93,8 +95,8 @@ module _ (s : List ℕ) (k : ℕ) {out out′ : List ℕ} {r : ℕ} (long : leng
   unfolding lineText lineOfRecord afterLine
   says-run a e p = says 0 (λ f. absurd (omega arith)) (rw (eq-eqb (refusal s) 0 a, e) (p .puts)) (rw e (p .leaves))
 
-  pub says-refused : {told : Refusal} → refusal s ≢ 0 → told ≡ toldOf s (refusal s) → Puts (cond (eqb k 1) (refusedLine told) []) out 0 r out′ →
-      SaysLine s k out r out′ s
+  pub says-refused : {told : Refusal} → refusal s ≢ 0 → told ≡ toldOf s (refusal s) →
+      Puts (cond (eqb k 1) (refusedLine told) []) out 0 r out′ → SaysLine s k out r out′ s
   unfolding lineText
   says-refused h t p =
       let third : ThirdNumber s 0 =

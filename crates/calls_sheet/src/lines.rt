@@ -3,7 +3,8 @@ ghost use Prim.Native.Nat.{_≤_};
 ghost use lib.Dec.{eqb};
 ghost use lib.ListN.{length};
 ghost use mathlib.Core.Path.{_≡_};
-ghost use Rattle.calls_sheet.specs.Lines.{countLine, ending, entangledLine, headingLine, orderLine, refusedLine, turnsLine};
+ghost use Rattle.calls_sheet.specs.Lines.{countLine, ending, entangledLine, headingLine, orderLine};
+ghost use Rattle.calls_sheet.specs.Lines.{refusedLine, turnsLine};
 ghost use Rattle.work_text.specs.Puts.{Puts};
 use calls_turns::answers::Ran;
 use record_fields::refusal::Refusal;
@@ -59,7 +60,9 @@ fn ending_letter(settled: u32) -> u8
 // Turns, `S` settled or `U` not, last count.
 pub fn turns_line(ran: Ran, out: &mut [u8]) -> usize
     requires { ⌜ 64 ≤ length (now out) ⌝ }
-    ensures { λ r. ⌜ Puts (turnsLine (ran .turns) (eqb (ran .settled) 1) (ran .last)) (now (out .entry)) 0 r (now (out .exit)) ⌝ }
+    ensures { λ r. ⌜
+        Puts (turnsLine (ran .turns) (eqb (ran .settled) 1) (ran .last)) (now (out .entry)) 0 r (now (out .exit))
+        ⌝ }
 {
     let begun = put(b"T", out, 0);
     let told = put_next(ran.turns, out, begun);

@@ -17,7 +17,7 @@ use Rattle.tanglegram.proofs.Crossings.{count-fits}
 use Rattle.tanglegram.proofs.Entanglement.{worst-most}
 use Rattle.tanglegram.proofs.Table.{table-run}
 use Rattle.tanglegram.proofs.Thousandths.{within-1000, worst-positive}
-use Rattle.work_text.specs.Lines.{next, spaced, line}
+use Rattle.work_text.specs.Lines.{ascii, space, next, spaced, line}
 use Rattle.work_text.proofs.Decimal.{length-most}
 use Rattle.work_text.proofs.Spaced.{line-length}
 use Rattle.record_fields.specs.Fields.{two, versionAt, lengthOf, holdOf, sizeOf, Parts, parts, partsOf, mostTurns}
@@ -68,7 +68,7 @@ module _ (s : List ℕ) (a : refusal s ≡ 0) where
   heading-most =
       omega (
         arith,
-        one-number (84 ∷ 71 ∷ 80 ∷ 32 ∷ 49 ∷ 32 ∷ holdOf s ∷ []) (sizeOf s),
+        one-number (ascii "TGP 1 " ++ (holdOf s ∷ [])) (sizeOf s),
         accepted-sized s a .most,
         short 2 (sizeOf s) (omega arith) (omega (arith, accepted-sized s a .most)),
       )
@@ -87,7 +87,7 @@ module _ (s : List ℕ) (a : refusal s ≡ 0) where
 
   count-line-most : length (countLine (shownCount s)) ≤ 9
   count-line-most =
-      omega (arith, one-number (88 ∷ []) (shownCount s), short 5 (shownCount s) (omega arith) (omega (arith, count-most (layoutsOf s))))
+      omega (arith, one-number (ascii "X") (shownCount s), short 5 (shownCount s) (omega arith) (omega (arith, count-most (layoutsOf s))))
 
   turns-line-most : (settled : Bool) →
       length (turnsLine (ranTo s mostTurns .turns) settled (crossings (tableOf s) (ranTo s mostTurns .last))) ≤ 18
@@ -95,11 +95,11 @@ module _ (s : List ℕ) (a : refusal s ≡ 0) where
       let ran = ranTo s mostTurns in
       let last = crossings (tableOf s) (ran .last) in
       let taken = table-run (tableOf s) (accepted-fair s a) mostTurns (layoutsOf s) (accepted-fits s a) .allowed in
-      let below = line (32 ∷ ending settled ∷ []) (last ∷ []) in
+      let below = line (space ∷ ending settled ∷ []) (last ∷ []) in
       omega (
         arith,
-        length-append (84 ∷ next (ran .turns)) below,
-        one-number (32 ∷ ending settled ∷ []) last,
+        length-append (ascii "T" ++ next (ran .turns)) below,
+        one-number (space ∷ ending settled ∷ []) last,
         short 5 (ran .turns) (omega arith) (omega (arith, taken)),
         short 5 last (omega arith) (omega (arith, count-most (ran .last))),
       )
@@ -108,7 +108,8 @@ module _ (s : List ℕ) (a : refusal s ≡ 0) where
   third-most t = rw (t .or-zero) (go (t .answer) (t .told .answers))
     where
       go : (answer : InThousandths) → ThousandthsOf s answer → Option·getD (thousandthsIn answer) 0 ≤ 1000
-      go (Ratio k) p = within-1000 (shownDisplacement s) (worst (sizeOf s)) (worst-positive (sizeOf s) (p .1)) (displacement-at-most s a) k (p .2 .has)
+      go (Ratio k) p =
+          within-1000 (shownDisplacement s) (worst (sizeOf s)) (worst-positive (sizeOf s) (p .1)) (displacement-at-most s a) k (p .2 .has)
       go NoRatio p = omega arith
       go (Refused r) p = omega arith
 
@@ -119,7 +120,7 @@ module _ (s : List ℕ) (a : refusal s ≡ 0) where
       let most = worst-most (sizeOf s) (accepted-sized s a .most) in
       omega (
         arith,
-        three-numbers (69 ∷ []) d w third,
+        three-numbers (ascii "E") d w third,
         short 7 d (omega arith) (omega (arith, displacement-at-most s a)),
         short 7 w (omega arith) (omega arith),
         short 3 third (omega arith) (omega (arith, third-most t)),
@@ -171,16 +172,20 @@ row-most : {P : Parts} {number row : ℕ} → SaysRow P number row → ((number 
 row-most {P} {number} {row} p h = go (eqb number 7) refl (eqb number 8) refl
   where
     go : (b : Bool) → eqb number 7 ≡ b → (d : Bool) → eqb number 8 ≡ d → row < 512
-    go true e d f = let seven : (number ≡ 7) ⊎ (number ≡ 8) = inl (eqb-true number 7 e) in omega (arith, p .exactly .0 seven .1, h seven)
-    go false e true f = let eight : (number ≡ 7) ⊎ (number ≡ 8) = inr (eqb-true number 8 f) in omega (arith, p .exactly .0 eight .1, h eight)
+    go true e d f =
+        let seven : (number ≡ 7) ⊎ (number ≡ 8) = inl (eqb-true number 7 e) in
+        omega (arith, p .exactly .0 seven .1, h seven)
+    go false e true f =
+        let eight : (number ≡ 7) ⊎ (number ≡ 8) = inr (eqb-true number 8 f) in
+        omega (arith, p .exactly .0 eight .1, h eight)
     go false e false f = omega (arith, p .no-row (eqb-false number 7 e) (eqb-false number 8 f))
 
 refused-line-most : (r : Refusal) → r .number ≤ 12 → r .row < 512 → length (refusedLine r) ≤ 30
 refused-line-most r n h = go (r .row) h
   where
-    go : (row : ℕ) → row < 512 → length (line (82 ∷ 69 ∷ 70 ∷ 85 ∷ 83 ∷ 69 ∷ 68 ∷ []) (r .number ∷ rowTold row)) ≤ 30
-    go zero h = omega (arith, line-most (82 ∷ 69 ∷ 70 ∷ 85 ∷ 83 ∷ 69 ∷ 68 ∷ []) (r .number ∷ []) (omega arith, tt))
-    go (suc i) h = omega (arith, line-most (82 ∷ 69 ∷ 70 ∷ 85 ∷ 83 ∷ 69 ∷ 68 ∷ []) (r .number ∷ suc i ∷ []) (omega arith, (omega arith, tt)))
+    go : (row : ℕ) → row < 512 → length (line (ascii "REFUSED") (r .number ∷ rowTold row)) ≤ 30
+    go zero h = omega (arith, line-most (ascii "REFUSED") (r .number ∷ []) (omega arith, tt))
+    go (suc i) h = omega (arith, line-most (ascii "REFUSED") (r .number ∷ suc i ∷ []) (omega arith, (omega arith, tt)))
 
 -- ---- the whole
 

@@ -25,7 +25,8 @@ use Rattle.calls_turns.proofs.Turns.{running-good}
 use mathlib.Core.Option.{Option·getD}
 use Rattle.calls_show.specs.Calls.{thousandthsIn}
 use Rattle.calls_show.proofs.Outcomes.{one-thousandths}
-use Rattle.calls_sheet.specs.Sheet.{ThirdNumber, isRun, afterRun, leftLine, rightLine, asItStands, ofTheRun, sheetText, Sheet, lineOfRecord, lineText, afterLine}
+use Rattle.calls_sheet.specs.Sheet.{ThirdNumber, isRun, afterRun, leftLine, rightLine, asItStands, ofTheRun, sheetText, Sheet}
+use Rattle.calls_sheet.specs.Sheet.{lineOfRecord, lineText, afterLine}
 use Rattle.calls_sheet.specs.Lines.{headingLine, countLine, entangledLine, refusedLine}
 use Rattle.calls_sheet.specs.Shown.{neitherHeld}
 use Rattle.calls_sheet.specs.Calls.{SaysLine}

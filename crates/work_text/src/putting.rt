@@ -1,4 +1,5 @@
-// Text put into lent memory from a place on. Each function answers the place after its text, and keeps every other byte.
+// Text put into lent memory from a place on. Each function answers the place after its text, and keeps every other
+// byte.
 ghost use Prim.Native.Nat.{_+_, _≤_};
 ghost use lib.ListN.{length};
 ghost use Rattle.work_text.specs.Decimal.{decimal};

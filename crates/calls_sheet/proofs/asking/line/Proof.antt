@@ -39,25 +39,30 @@ same-length-2 c = search needs
 
 returns-2 : tie.Need-returns-2
 returns-2 c =
-    let s = c .before .before .before .before .before .before .before .before .before .before .before .before in
-    let a = s .args in
-    let heading = read-heading (c .before .before .before .before .before .before .before .before .before .read .ensures) (c .before .before .before .before .before .before .before .reading .given .1) in
-    says-run (a .s .now) (a .k) (omega arith) (heading .accepted) (c .before .before .before .before .before .if1 .taken) (c .before .before .run-line .ensures)
+    let test = c .before .before .before .before .before in
+    let case = test .before .before in
+    let read = case .before .before in
+    let a = read .before .before .before .args in
+    let heading = read-heading (read .read .ensures) (case .reading .given .1) in
+    says-run (a .s .now) (a .k) (omega arith) (heading .accepted) (test .if1 .taken) (c .before .before .run-line .ensures)
 
 shown-line-requires : tie.Need-shown-line-requires
 shown-line-requires c κs =
-    let heading = read-heading (c .before .before .before .before .before .before .read .ensures) (c .before .before .before .before .reading .given .1) in
-    (heading, c .before .before .if1 .left, omega arith)
+    let test = c .before .before in
+    let case = test .before .before in
+    (read-heading (case .before .before .read .ensures) (case .reading .given .1), test .if1 .left, omega arith)
 
 same-length-3 : tie.Need-same-length-3
 same-length-3 c = search needs
 
 returns-3 : tie.Need-returns-3
 returns-3 c =
-    let s = c .before .before .before .before .before .before .before .before .before .before in
-    let a = s .args in
-    let heading = read-heading (c .before .before .before .before .before .before .before .read .ensures) (c .before .before .before .before .before .reading .given .1) in
-    says-shown (a .s .now) (a .k) (omega arith) (heading .accepted) (c .before .before .before .if1 .left) (c .shown-line .ensures)
+    let test = c .before .before .before in
+    let case = test .before .before in
+    let read = case .before .before in
+    let a = read .before .before .before .args in
+    let heading = read-heading (read .read .ensures) (case .reading .given .1) in
+    says-shown (a .s .now) (a .k) (omega arith) (heading .accepted) (test .if1 .left) (c .shown-line .ensures)
 
 pub line-spec : {M : Type 1} → statement M
 line-spec =

@@ -13,7 +13,8 @@ same-length c = search needs
 
 returns : tie.Need-returns
 returns c =
-    rw (eq-eqb (c .before .before .before .before .before .before .args .k) 1 (c .before .before .before .before .if1 .taken)) (c .before .before .refused-line .ensures)
+    let test = c .before .before .before .before in
+    rw (eq-eqb (test .before .before .args .k) 1 (test .if1 .taken)) (c .before .before .refused-line .ensures)
 
 returns-2 : tie.Need-returns-2
 returns-2 c = rw (ne-eqb (c .before .before .args .k) 1 (c .if1 .left)) none-put

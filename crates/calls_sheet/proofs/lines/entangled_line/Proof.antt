@@ -1,6 +1,7 @@
 -- `entangled_line`: three numbers of 32 bits fit.
 use mathlib.Core.List.{[], _∷_}
 use native.Mathlib.Omega.{arith}
+use Rattle.work_text.specs.Lines.{ascii}
 use Rattle.calls_sheet.proofs.Room.{line-most}
 use borrow.Author.Needs.{needs}
 use Rattle.calls_sheet.proofs.lines.entangled_line.Statement.{statement}
@@ -15,7 +16,7 @@ slice-aggregate-put-line-2 c = search needs
 put-line-requires : tie.Need-put-line-requires
 put-line-requires c κs =
     let a = c .before .before .before .before .args in
-    omega (arith, line-most (69 ∷ []) (a .d ∷ a .w ∷ a .k ∷ []) (omega arith, (omega arith, (omega arith, tt))))
+    omega (arith, line-most (ascii "E") (a .d ∷ a .w ∷ a .k ∷ []) (omega arith, (omega arith, (omega arith, tt))))
 
 same-length : tie.Need-same-length
 same-length c = search needs

@@ -1,6 +1,7 @@
 -- `heading_line`: n fits.
-use mathlib.Core.List.{[], _∷_}
+use mathlib.Core.List.{[], _∷_, _++_}
 use native.Mathlib.Omega.{arith}
+use Rattle.work_text.specs.Lines.{ascii}
 use Rattle.calls_sheet.proofs.Room.{line-most}
 use borrow.Author.Needs.{needs}
 use Rattle.calls_sheet.proofs.lines.heading_line.Statement.{statement}
@@ -15,7 +16,7 @@ slice-aggregate-put-line-2 c = search needs
 put-line-requires : tie.Need-put-line-requires
 put-line-requires c κs =
     let a = c .before .before .before .before .args in
-    omega (arith, line-most (84 ∷ 71 ∷ 80 ∷ 32 ∷ 49 ∷ 32 ∷ a .hold ∷ []) (a .n ∷ []) (omega arith, tt))
+    omega (arith, line-most (ascii "TGP 1 " ++ (a .hold ∷ [])) (a .n ∷ []) (omega arith, tt))
 
 same-length : tie.Need-same-length
 same-length c = search needs

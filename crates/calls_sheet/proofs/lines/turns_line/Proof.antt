@@ -15,8 +15,9 @@ put-requires c κs = search needs
 
 put-next-requires : tie.Need-put-next-requires
 put-next-requires c κs =
-    let s = c .before .before .before .before .before .before .before in
-    omega (arith, c .before .before .before .put .ensures .ends, put-long (c .before .before .before .put .ensures), next-most (s .args .ran .turns) (omega arith))
+    let begun = c .before .before .before in
+    let ran = begun .before .before .before .before .args .ran in
+    omega (arith, begun .put .ensures .ends, put-long (begun .put .ensures), next-most (ran .turns) (omega arith))
 
 ending-letter-requires : tie.Need-ending-letter-requires
 ending-letter-requires c κs = search needs
@@ -31,19 +32,21 @@ put-line-requires : tie.Need-put-line-requires
 put-line-requires c κs =
     let told = c .before .before .before .before .before .before .put-next .ensures in
     let begun = c .before .before .before .before .before .before .before .before .before .before .put .ensures in
-    let ran = c .before .before .before .before .before .before .before .before .before .before .before .before .before .before .args .ran in
+    let r = c .before .before .before .before .before .before .before .before .before .before .before .before .before .before .args .ran in
     let letter = c .before .before .before .ending-letter .result in
-    let line = line-most (32 ∷ letter ∷ []) (ran .last ∷ []) (omega arith, tt) in
-    omega (arith, line, told .ends, put-long told, begun .ends, put-long begun, next-most (ran .turns) (omega arith))
+    let line = line-most (32 ∷ letter ∷ []) (r .last ∷ []) (omega arith, tt) in
+    omega (arith, line, told .ends, put-long told, begun .ends, put-long begun, next-most (r .turns) (omega arith))
 
 same-length : tie.Need-same-length
 same-length c = search needs
 
 returns : tie.Need-returns
 returns c =
-    let begun = c .before .before .before .before .before .before .before .before .before .before .before .before .before .put .ensures in
-    let told = c .before .before .before .before .before .before .before .before .before .put-next .ensures in
-    rw (c .before .before .before .before .before .before .ending-letter .ensures) at (put-joined begun (put-joined told (c .before .before .put-line .ensures)))
+    let letter = c .before .before .before .before .before .before in
+    let next = letter .before .before .before in
+    let begun = next .before .before .before .before .put .ensures in
+    let text = put-joined begun (put-joined (next .put-next .ensures) (c .before .before .put-line .ensures)) in
+    rw (letter .ending-letter .ensures) at text
 
 pub turns-line-spec : {M : Type 1} → statement M
 turns-line-spec =

@@ -33,27 +33,33 @@ same-length c = search needs
 
 returns : tie.Need-returns
 returns c =
-    let s = c .before .before .before .before .before .before .before .before .before .before .before in
-    entangled-shown (s .args .s .now) (s .pre .0) (c .before .before .before .before .before .before .before .squared-entanglement .ensures) (c .before .before .before .before .before .squared .given .1)
-    (c .before .before .before .before .before .before .before .before .thousandths .ensures) (c .before .before .entangled-line .ensures)
+    let case = c .before .before .before .before .before in
+    let answer = case .before .before in
+    let s = answer .before .before .before .before in
+    entangled-shown (s .args .s .now) (s .pre .0) (answer .squared-entanglement .ensures) (case .squared .given .1)
+    (answer .before .thousandths .ensures) (c .before .before .entangled-line .ensures)
 
 same-length-2 : tie.Need-same-length-2
 same-length-2 c = search needs
 
 returns-2 : tie.Need-returns-2
 returns-2 c =
-    let s = c .before .before .before .before .before .before .before .before .before .before in
-    entangled-shown (s .args .s .now) (s .pre .0) (c .before .before .before .before .before .before .squared-entanglement .ensures) (c .before .before .before .before .enum-told .given .1)
-    (c .before .before .before .before .before .before .before .thousandths .ensures) (c .before .before .entangled-line2 .ensures)
+    let case = c .before .before .before .before in
+    let answer = case .before .before in
+    let s = answer .before .before .before .before in
+    entangled-shown (s .args .s .now) (s .pre .0) (answer .squared-entanglement .ensures) (case .enum-told .given .1)
+    (answer .before .thousandths .ensures) (c .before .before .entangled-line2 .ensures)
 
 same-length-3 : tie.Need-same-length-3
 same-length-3 c = search needs
 
 returns-3 : tie.Need-returns-3
 returns-3 c =
-    let s = c .before .before .before .before .before .before .before .before .before .before .before in
-    entangled-shown (s .args .s .now) (s .pre .0) (c .before .before .before .before .before .before .before .squared-entanglement .ensures) (c .before .before .before .before .before .squared2 .given .1)
-    (c .before .before .before .before .before .before .before .before .thousandths .ensures) (c .before .before .entangled-line3 .ensures)
+    let case = c .before .before .before .before .before in
+    let answer = case .before .before in
+    let s = answer .before .before .before .before in
+    entangled-shown (s .args .s .now) (s .pre .0) (answer .squared-entanglement .ensures) (case .squared2 .given .1)
+    (answer .before .thousandths .ensures) (c .before .before .entangled-line3 .ensures)
 
 pub measures-line-spec : {M : Type 1} → statement M
 measures-line-spec =

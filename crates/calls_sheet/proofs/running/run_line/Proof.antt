@@ -18,7 +18,10 @@ same-length-2 c = search needs
 
 returns : tie.Need-returns
 returns c =
-    run-not-made (c .before .before .before .before .before .before .before .before .before .before .before .before .before .args .s .now) (c .before .before .before .before .before .before .before .before .before .run .ensures) (c .before .before .before .before .if1 .taken) (c .before .before .refused-line .ensures)
+    let test = c .before .before .before .before in
+    let ran = test .before .before .before .before .before in
+    let s = ran .before .before .before .before in
+    run-not-made (s .args .s .now) (ran .run .ensures) (test .if1 .taken) (c .before .before .refused-line .ensures)
 
 turns-line-requires : tie.Need-turns-line-requires
 turns-line-requires c κs = search needs
@@ -31,7 +34,10 @@ same-length-4 c = search needs
 
 returns-2 : tie.Need-returns-2
 returns-2 c =
-    run-made (c .before .before .before .before .before .before .before .before .before .before .before .before .before .args .s .now) (c .before .before .before .before .before .before .before .before .before .run .ensures) (c .before .before .before .before .if1 .left) (c .before .before .turns-line .ensures)
+    let test = c .before .before .before .before in
+    let ran = test .before .before .before .before .before in
+    let s = ran .before .before .before .before in
+    run-made (s .args .s .now) (ran .run .ensures) (test .if1 .left) (c .before .before .turns-line .ensures)
 
 pub run-line-spec : {M : Type 1} → statement M
 run-line-spec =

@@ -38,8 +38,9 @@ same-length c = search needs
 returns : tie.Need-returns
 unfolding lineOfRecord
 returns c =
-    let s = c .before .before .before .before .before .before .before in
-    said (s .args .s .now) 1 (c .before .before .before .before .match .keys1) (λ e. omega arith)
+    let m = c .before .before .before .before in
+    let s = m .before .before .before in
+    said (s .args .s .now) 1 (m .match .keys1) (λ e. omega arith)
     (rw (s .pre .0 .holds, s .pre .0 .sized) at (c .before .before .heading-line .ensures))
 
 same-length-2 : tie.Need-same-length-2
@@ -47,41 +48,58 @@ same-length-2 c = search needs
 
 returns-2 : tie.Need-returns-2
 unfolding lineOfRecord
-returns-2 c = said (c .before .before .before .before .before .before .before .args .s .now) 2 (c .before .before .before .before .match .keys2) (λ e. omega arith) (c .before .before .side-line .ensures)
+returns-2 c =
+    let m = c .before .before .before .before in
+    said (m .before .before .before .args .s .now) 2 (m .match .keys2) (λ e. omega arith)
+    (c .before .before .side-line .ensures)
 
 same-length-3 : tie.Need-same-length-3
 same-length-3 c = search needs
 
 returns-3 : tie.Need-returns-3
 unfolding lineOfRecord
-returns-3 c = said (c .before .before .before .before .before .before .before .args .s .now) 3 (c .before .before .before .before .match .keys3) (λ e. omega arith) (c .before .before .side-line2 .ensures)
+returns-3 c =
+    let m = c .before .before .before .before in
+    said (m .before .before .before .args .s .now) 3 (m .match .keys3) (λ e. omega arith)
+    (c .before .before .side-line2 .ensures)
 
 same-length-4 : tie.Need-same-length-4
 same-length-4 c = search needs
 
 returns-4 : tie.Need-returns-4
 unfolding lineOfRecord
-returns-4 c = said (c .before .before .before .before .before .before .before .args .s .now) 4 (c .before .before .before .before .match .keys4) (λ e. omega arith) (c .before .before .counted-line .ensures)
+returns-4 c =
+    let m = c .before .before .before .before in
+    said (m .before .before .before .args .s .now) 4 (m .match .keys4) (λ e. omega arith)
+    (c .before .before .counted-line .ensures)
 
 same-length-5 : tie.Need-same-length-5
 same-length-5 c = search needs
 
 returns-5 : tie.Need-returns-5
-returns-5 c = said-entangled (c .before .before .before .before .before .before .before .args .s .now) (c .before .before .before .before .match .keys5) (c .before .before .measures-line .ensures)
+returns-5 c =
+    let m = c .before .before .before .before in
+    said-entangled (m .before .before .before .args .s .now) (m .match .keys5) (c .before .before .measures-line .ensures)
 
 same-length-6 : tie.Need-same-length-6
 same-length-6 c = search needs
 
 returns-6 : tie.Need-returns-6
 unfolding lineOfRecord
-returns-6 c = said (c .before .before .before .before .before .before .before .args .s .now) 7 (c .before .before .before .before .match .keys6) (λ e. omega arith) (c .before .before .side-after .ensures)
+returns-6 c =
+    let m = c .before .before .before .before in
+    said (m .before .before .before .args .s .now) 7 (m .match .keys6) (λ e. omega arith)
+    (c .before .before .side-after .ensures)
 
 same-length-7 : tie.Need-same-length-7
 same-length-7 c = search needs
 
 returns-7 : tie.Need-returns-7
 unfolding lineOfRecord
-returns-7 c = said (c .before .before .before .before .before .before .before .args .s .now) 8 (c .before .before .before .before .match .keys7) (λ e. omega arith) (c .before .before .side-after2 .ensures)
+returns-7 c =
+    let m = c .before .before .before .before in
+    said (m .before .before .before .args .s .now) 8 (m .match .keys7) (λ e. omega arith)
+    (c .before .before .side-after2 .ensures)
 
 returns-8 : tie.Need-returns-8
 returns-8 c =

@@ -17,16 +17,18 @@ same-length c = search needs
 
 returns : tie.Need-returns
 returns c =
-    let s = c .before .before .before .before .before .before .before .before in
+    let taken = c .before .before .before .before in
+    let s = taken .before .before .before .before in
     let h = s .pre .0 in
-    rw (run-free (s .args .s .now) (h .accepted) ∙ ap neitherHeld (sym (h .holds)) ∙ sym (c .before .before .before .before .before .is-free .ensures) ∙ c .before .before .before .before .if1 .taken)
-    (c .before .before .side-line .ensures)
+    let free = run-free (s .args .s .now) (h .accepted) ∙ ap neitherHeld (sym (h .holds)) in
+    rw (free ∙ sym (taken .before .is-free .ensures) ∙ taken .if1 .taken) (c .before .before .side-line .ensures)
 
 returns-2 : tie.Need-returns-2
 returns-2 c =
     let s = c .before .before .before .before in
     let h = s .pre .0 in
-    rw (run-free (s .args .s .now) (h .accepted) ∙ ap neitherHeld (sym (h .holds)) ∙ sym (c .before .is-free .ensures) ∙ c .if1 .left) none-put
+    let free = run-free (s .args .s .now) (h .accepted) ∙ ap neitherHeld (sym (h .holds)) in
+    rw (free ∙ sym (c .before .is-free .ensures) ∙ c .if1 .left) none-put
 
 pub side-after-spec : {M : Type 1} → statement M
 side-after-spec =

@@ -28,10 +28,10 @@ slice-aggregate-order-line c =
 
 order-line-requires : tie.Need-order-line-requires
 order-line-requires c κs =
-    let s = c .before .before .before .before .before .before .before in
+    let o = c .before .before .before in
+    let s = o .before .before .before .before in
     let a = s .args in
-    let shown =
-    order-shown (a .s .now) (s .pre .0) (a .side) (s .pre .2) (c .before .before .before .order2 .ensures) (omega arith) (a .n) (s .pre .1) in
+    let shown = order-shown (a .s .now) (s .pre .0) (a .side) (s .pre .2) (o .order2 .ensures) (omega arith) (a .n) (s .pre .1) in
     rw shown (omega (arith, order-fits (a .s .now) (s .pre .0) (a .side) (s .pre .2) (a .letter)))
 
 same-length : tie.Need-same-length
@@ -39,10 +39,10 @@ same-length c = search needs
 
 returns : tie.Need-returns
 returns c =
-    let s = c .before .before .before .before .before .before .before .before .before .before in
+    let o = c .before .before .before .before .before .before in
+    let s = o .before .before .before .before in
     let a = s .args in
-    let shown =
-    order-shown (a .s .now) (s .pre .0) (a .side) (s .pre .2) (c .before .before .before .before .before .before .order2 .ensures) (omega arith) (a .n) (s .pre .1) in
+    let shown = order-shown (a .s .now) (s .pre .0) (a .side) (s .pre .2) (o .order2 .ensures) (omega arith) (a .n) (s .pre .1) in
     rw shown at (c .before .before .order-line .ensures)
 
 pub side-line-spec : {M : Type 1} → statement M
