@@ -1,7 +1,7 @@
 // Standard input, for the programs.
 ghost use Prim.Native.Nat.{_+_, _≤_};
 ghost use lib.ListN.{length};
-ghost use Rattle.input.specs.Read.{Within};
+ghost use Rattle.io.specs.Counts.{Counts};
 
 // What came: how many bytes, in the memory's first places, and whether no read failed. Input that goes on when the
 // memory is full is not read further.
@@ -25,7 +25,7 @@ fn read_more(buf: &mut [u8], from: usize) -> Input
 
 // Reads standard input into buf until it ends, until buf is full, or until a read fails.
 pub fn read_whole(buf: &mut [u8]) -> Input
-    ensures { λ r. ⌜ Within (r .bytes) (now (buf .exit)) ⌝ }
+    ensures { λ r. ⌜ Counts (r .bytes) (now (buf .exit)) ⌝ }
 {
     let mut done = 0;
     let mut whole = true;

@@ -3,7 +3,7 @@ use Prim.Native.Nat.{ℕ}
 use mathlib.Core.Path.{_≡_, sym, _∙_, subst}
 use mathlib.Core.List.{List}
 use lib.ListN.{length}
-use Rattle.work_text.proofs.Decimal.{reads-back, zero-alone, no-zero-first, each-digit}
+use Rattle.work_text.proofs.Decimal.{zero-alone, no-zero-first, each-digit}
 use Rattle.record_fields.specs.Fields.{mostTurns}
 use Rattle.promises.specs.HeldStays.{Keeps}
 use Rattle.promises.specs.PinnedStays.{PinsKept}
@@ -13,7 +13,7 @@ use Rattle.promises.proofs.PinnedStays.{pins-same, pinned-stays}
 use Rattle.promises.proofs.SheetLines.{in-order, one-sheet, one-outcome, kept, run-left, run-leaves, told, an-outcome, line-leaves}
 use Rattle.promises.proofs.SheetLength.{sheet-most}
 use Rattle.promises.proofs.SheetCut.{cut-sheet}
-use Rattle.promises.proofs.SheetNumbers.{as-in-newick}
+use Rattle.promises.proofs.SheetNumbers.{reads-back, as-in-newick}
 
 pub sheet : Sheet.SheetPromise
 sheet = record {

@@ -6,8 +6,9 @@ use mathlib.Core.Logic.{_≢_}
 use mathlib.Core.List.{List, [], _∷_, _++_}
 use lib.ListN.{length, take, getD}
 use Rattle.tanglegram.specs.Lists.{Each}
+use Rattle.newick.specs.Sentence.{value}
 use Rattle.newick.specs.Writing as newick
-use Rattle.work_text.specs.Decimal.{decimal, said}
+use Rattle.work_text.specs.Decimal.{decimal}
 use Rattle.record_fields.specs.Fields.{mostTurns}
 use Rattle.calls_turns.specs.declared.answers.Ran.{Ran}
 use Rattle.calls_turns.specs.Calls.{Runs}
@@ -23,9 +24,10 @@ pub data Printed : List ℕ → ℕ → List ℕ → Type 0 where
   more : {s s′ out out′ rest : List ℕ} {k answer : ℕ} → k ≤ 8 → SaysLine s k out answer out′ s′ →
       Printed s′ (suc k) rest → Printed s k (take answer out′ ++ rest)
 
--- The text of a number of at most twenty digits, as all of 64 bits are: digits, which say the number, and no 0 in front but 0's own.
+-- The text of a number of at most twenty digits, as all of 64 bits are: digits, which say the number (`value`, as in Newick text), and no
+-- 0 in front but 0's own.
 pub record Numbers : Type 0 where
-  pub reads-back : (x : ℕ) → x < 10 ^ 20 → said 0 (decimal x) ≡ x
+  pub reads-back : (x : ℕ) → x < 10 ^ 20 → value (decimal x) ≡ x
   pub zero-alone : decimal 0 ≡ 48 ∷ []
   pub no-zero-first : (x : ℕ) → x < 10 ^ 20 → x ≢ 0 → getD (decimal x) 0 0 ≢ 48
   pub each-digit : (x : ℕ) → x < 10 ^ 20 → Each (λ d. (48 ≤ d) × (d ≤ 57)) (decimal x)

@@ -1,5 +1,6 @@
--- Laws of decimal text: it reads back as the number, no 0 stands in front but 0's own, each byte is a digit, how long it is; and the
--- kit's digits, the fewest that hold a number, are its decimal text.
+-- Laws of decimal text: no 0 stands in front but 0's own, each byte is a digit, how long it is; and the kit's digits, the fewest that hold
+-- a number, are its decimal text. That it reads back as the number is said where the number of digits is defined, by Newick text
+-- (`promises/proofs/SheetNumbers`), by `decimal-true`.
 use Prim.Native.Nat.{ℕ, zero, suc, _+_, _-_, _*_, _/_, _%_, _^_, _≤_, _<_}
 use mathlib.Core.Path.{_≡_, refl, sym, ap, _∙_}
 use mathlib.Core.Logic.{_≢_}
@@ -14,7 +15,7 @@ use lib.ListN.{length, getD, length-append, List·getD-append}
 use Rattle.io.specs.Digits.{digits, Fewest, glyph}
 use Rattle.tanglegram.specs.Lists.{Each}
 use Rattle.tanglegram.proofs.Lists.{each-append}
-use Rattle.work_text.specs.Decimal.{digitsWithin, decimal, said}
+use Rattle.work_text.specs.Decimal.{digitsWithin, decimal}
 
 -- ---- one digit, or the digits of the tenth part and the last one
 
@@ -48,23 +49,10 @@ digits-true P one more (suc most) x h = go (ltb x 10) refl (digits-true P one mo
 abbrev pub Written : ℕ → Type 0
 Written x = x < 10 ^ 20
 
-decimal-true : (P : ℕ → List ℕ → Type 0) → ((x : ℕ) → x < 10 → P x ((48 + x) ∷ [])) →
+pub decimal-true : (P : ℕ → List ℕ → Type 0) → ((x : ℕ) → x < 10 → P x ((48 + x) ∷ [])) →
     ((x : ℕ) (ds : List ℕ) → 10 ≤ x → P (x / 10) ds → P x (ds ++ ((48 + x % 10) ∷ []))) → (x : ℕ) → Written x → P x (decimal x)
 unfolding decimal
 decimal-true P one more x h = digits-true P one more 19 x h
-
--- ---- it reads back as the number
-
-said-more : (ds : List ℕ) (x d : ℕ) → said x (ds ++ (d ∷ [])) ≡ 10 * said x ds + (d - 48)
-unfolding said
-said-more [] x d = refl
-said-more (e ∷ ds) x d = said-more ds (10 * x + (e - 48)) d
-
-pub reads-back : (x : ℕ) → Written x → said 0 (decimal x) ≡ x
-unfolding said
-reads-back =
-    decimal-true (λ x ds. said 0 ds ≡ x) (λ x h. omega arith)
-    (λ x ds h p. said-more ds 0 (48 + x % 10) ∙ omega arith)
 
 -- ---- it begins with no 0 but 0's own
 

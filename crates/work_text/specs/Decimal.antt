@@ -1,5 +1,5 @@
 -- A number's decimal text: the bytes of its digits, the highest first and none too many.
-use Prim.Native.Nat.{ℕ, zero, suc, _+_, _-_, _*_, _/_, _%_}
+use Prim.Native.Nat.{ℕ, zero, suc, _+_, _/_, _%_}
 use mathlib.Core.Bool.{cond}
 use mathlib.Core.List.{List, [], _∷_, _++_}
 use lib.Dec.{ltb}
@@ -15,8 +15,3 @@ digitsWithin (suc most) x =
 unfoldable pub decimal : ℕ → List ℕ
 unfolding digitsWithin
 decimal x = digitsWithin 20 x
-
--- The number that digits say, after those before them said x.
-unfoldable pub said : ℕ → List ℕ → ℕ
-said x [] = x
-said x (d ∷ ds) = said (10 * x + (d - 48)) ds
