@@ -1,4 +1,6 @@
 // The calls on merge tables with signs: a table read into rows, and a side of a record written as a table.
+#![tactic(auto)]
+
 mod reading;
 mod writing;
 

@@ -1,4 +1,6 @@
 // Pinning one row of any bytes, or unpinning it.
+#![tactic(auto)]
+
 mod pinning;
 
 pub use pinning::pin;

@@ -1,4 +1,6 @@
 // The sheet of a record, line by line, as text in memory that the caller lends.
+#![tactic(auto)]
+
 mod asking;
 mod lines;
 mod measures;

@@ -1,5 +1,7 @@
 // The calls on any bytes that only show a record: order, count, pairs, squared entanglement,
 // thousandths.
+#![tactic(auto)]
+
 pub mod answers;
 mod counting;
 mod showing;

@@ -1,5 +1,6 @@
 // The desk: any call, typed as a line. Reads lines from standard input, up to 1,048,576 bytes of them, and answers one
 // line for each; `?` to a line that is no call. docs/DESK.md has the language.
+#![tactic(auto)]
 
 mod calls;
 mod changing;

@@ -1,5 +1,7 @@
 // Text on standard output, written at once, for the desk. Numbers are the text that `work_text` puts, which is proved.
 // What cannot be written is lost.
+#![tactic(auto)]
+
 ghost use Rattle.std.specs.Prelude.{◌≡◌, nat_abs};
 
 // The bytes of s.

@@ -1,4 +1,6 @@
 // A record as a whole: whether any bytes are one, or why not, and which row is bad; reading its heading; the hold.
+#![tactic(auto)]
+
 pub mod heading;
 mod hold;
 pub mod reading;

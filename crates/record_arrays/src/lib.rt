@@ -1,5 +1,7 @@
 // An accepted record taken apart into arrays, and put back. The calls stand on this; the work on the arrays is the
 // crates' below.
+#![tactic(auto)]
+
 mod places;
 mod putting_back;
 mod rows;

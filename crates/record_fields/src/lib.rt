@@ -1,5 +1,7 @@
 // The record's format: the bytes that are the device's whole state, the hold mark among them. What number each refusal
 // has, where each part lies, and the copies of parts into arrays and back.
+#![tactic(auto)]
+
 pub mod copying;
 pub mod fields;
 mod filling;

@@ -1,6 +1,7 @@
 // The sheet of one record: reads it from standard input, asks for the sheet's eight lines in their order, and writes
 // each to standard output as it comes. What the lines say, and that they are the sheet, is proved (`calls_sheet`,
 // `promises`).
+#![tactic(auto)]
 
 // Writes line k of the sheet, and answers whether that could be done. A line has at most 1,942 bytes.
 fn print_line(s: &mut [u8], k: usize) -> bool {

@@ -1,5 +1,7 @@
 // Orders and trees: the layout that an order shows, whether an order is compatible with a tree, and the layout with
 // another one's pins.
+#![tactic(auto)]
+
 mod matching;
 mod pins;
 

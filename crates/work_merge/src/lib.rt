@@ -1,5 +1,7 @@
 // Merge tables with signs: what an entry names and the entry for an object, the two tests of a table, and its rows
 // written out. No record and no refusals.
+#![tactic(auto)]
+
 mod entries;
 mod reading;
 

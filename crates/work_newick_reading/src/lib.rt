@@ -1,6 +1,8 @@
 // Newick text read into rows. The text is read once, from its first byte on, and what was read is noted in one array
 // (`specs/Notes.antt`), since it shows only at the end how many leaves there are; then the leaves are tested, and the
 // rows written.
+#![tactic(auto)]
+
 mod digits;
 mod notes;
 mod once;

@@ -1,4 +1,6 @@
 // Places seen so far, as bits: whether one is, whether each before a place is, and how many past a place are.
+#![tactic(auto)]
+
 mod seen;
 
 pub use seen::{all_before, is_marked, mark, ones_past};

@@ -1,4 +1,6 @@
 // Text put into memory that the caller lends, from a place on: bytes, numbers in decimal digits, and lines of these.
+#![tactic(auto)]
+
 mod lines;
 mod putting;
 

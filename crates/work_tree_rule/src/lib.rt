@@ -1,4 +1,6 @@
 // The tree rule, tested row by row: on a list of rows, or a row at a time by a caller that has them elsewhere.
+#![tactic(auto)]
+
 mod checking;
 
 pub use checking::{bad_row, row_breaks};

@@ -1,5 +1,7 @@
 // Trees in memory. A tree's rows are a row array, 1023 numbers of which the last is n (`specs/Rows.antt`); a
 // layout is a byte for each row; an order is an array of 512 leaf numbers of which the first n count.
+#![tactic(auto)]
+
 mod leaves;
 mod noting;
 mod turning;
