@@ -136,7 +136,7 @@ class Turn:
 
     def need(self, name):
         n = plain(name)
-        for w in ("overflow_",):
+        for w in ("overflow_", "nonzero_"):
             n = n.replace(w, "")
         n = n.replace("shared_slice_read", "slice_read")
         return n
@@ -238,6 +238,9 @@ class Turn:
         s = re.sub(r"[ \t]*\0[ \t]*\n", "\n", s)
         s = re.sub(r"\0[ \t]*", "", s)
         s = re.sub(r"\n[ \t]*\n", "\n", s)
+        # a test of `!x` says it of x today
+        s = re.sub(rf"(?<![^\s(])not-(?:true|false) (?:{IDENT}(?:\.{IDENT})*|\([^()]*\)) ({IDENT}(?:\.{IDENT})*)", r"\1", s)
+        s = re.sub(rf"\((c(?:\.{IDENT})+)\)", r"\1", s)
         # helpers
         for h in reversed(list(self.inlined)):
             if self.inlined[h] is None:
