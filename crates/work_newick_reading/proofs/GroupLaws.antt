@@ -46,7 +46,8 @@ none_read text at T T' e = rw e refl
 
 module _ {text : List ℕ} {at : ℕ} {T : List ℕ} (b : Begun text at T) where
   -- as many groups may be opened in either sentence
-  inside : (T' : List ℕ) (from : ℕ) → open_in T' ≡ open_in (opened T) → subtree_in (511 - open_in T') (drop from text) ≡ sub T (drop from text)
+  inside : (T' : List ℕ) (from : ℕ) → open_in T' ≡ open_in (opened T) →
+      subtree_in (511 - open_in T') (drop from text) ≡ sub T (drop from text)
   inside T' from e =
       let o = e ∙ opened_open T b.notes b.few in
       let h = b.few in

@@ -31,7 +31,8 @@ pub loop-at-preserved : goal.loop-at-preserved
 loop-at-preserved c =
     let text = text_in c.args.text.now in
     let w = c.with_digit-x.ensures in
-    digits_step text _ _ _ _ c.loop-at.invariant c.loop-at-test.true (is_true (goal.at.loop-at-preserved c).Else-not-is_digit) w.value w.value_2
+    digits_step text _ _ _ _ c.loop-at.invariant c.loop-at-test.true
+    (is_true (goal.at.loop-at-preserved c).Else-not-is_digit) w.value w.value_2
 
 pub returns : goal.returns
 returns c =

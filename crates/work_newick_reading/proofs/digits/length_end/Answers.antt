@@ -32,12 +32,15 @@ digits_from-whole-requires c =
 
 pub returns-then-whole-at : goal.returns-then-whole-at
 returns-then-whole-at c =
-    whole-none (text_in c.args.text.now) _ c.requires.1.within (colon-at (goal.at.returns-then-whole-at c).Else-byte_at-ne-COLON) _ _ c.digits_from-whole.ensures
+    whole-none (text_in c.args.text.now) _ c.requires.1.within (colon-at (goal.at.returns-then-whole-at c).Else-byte_at-ne-COLON) _ _
+    c.digits_from-whole.ensures
     (λ z. c.if-byte_at-ne-POINT.true (c.byte_at-2.ensures ∙ z)) c.if-whole-at.true
 
 pub returns-then-byte_at-ne-POINT : goal.returns-then-byte_at-ne-POINT
 returns-then-byte_at-ne-POINT c =
-    whole_length (text_in c.args.text.now) _ c.requires.1.within (colon-at (goal.at.returns-then-byte_at-ne-POINT c).Else-byte_at-ne-COLON) _ _ c.digits_from-whole.ensures
+    whole_length (text_in c.args.text.now) _ c.requires.1.within
+    (colon-at (goal.at.returns-then-byte_at-ne-POINT c).Else-byte_at-ne-COLON) _ _
+    c.digits_from-whole.ensures
     (λ z. c.if-byte_at-ne-POINT.true (c.byte_at-2.ensures ∙ z)) c.if-whole-at.false
 
 pub overflow_add-whole : goal.overflow_add-whole
@@ -50,10 +53,12 @@ digits_from-end-requires c =
 
 pub returns-then-end-at : goal.returns-then-end-at
 returns-then-end-at c =
-    pointed-none (text_in c.args.text.now) _ c.requires.1.within (colon-at (goal.at.returns-then-end-at c).Else-byte_at-ne-COLON) _ _ c.digits_from-whole.ensures
+    pointed-none (text_in c.args.text.now) _ c.requires.1.within (colon-at (goal.at.returns-then-end-at c).Else-byte_at-ne-COLON) _ _
+    c.digits_from-whole.ensures
     (point_at (goal.at.returns-then-end-at c).Else-byte_at-ne-POINT) _ _ c.digits_from-end.ensures c.if-end-at.true
 
 pub returns : goal.returns
 returns c =
-    pointed-length (text_in c.args.text.now) _ c.requires.1.within (colon-at (goal.at.returns c).Else-byte_at-ne-COLON) _ _ c.digits_from-whole.ensures
+    pointed-length (text_in c.args.text.now) _ c.requires.1.within (colon-at (goal.at.returns c).Else-byte_at-ne-COLON) _ _
+    c.digits_from-whole.ensures
     (point_at (goal.at.returns c).Else-byte_at-ne-POINT) _ _ c.digits_from-end.ensures c.if-end-at.false

@@ -36,5 +36,6 @@ is_end-requires c = let w = semicolon-within c in omega arith
 
 pub returns : goal.returns
 returns c =
-    text-whole c.args.text.now c.args.notes.now _ c.requires _ c.subtree-end.ensures c.if-end-eq0.false (semicolon-there (goal.at.returns c).Else-byte_at-ne-SEMICOLON) _
+    text-whole c.args.text.now c.args.notes.now _ c.requires _ c.subtree-end.ensures c.if-end-eq0.false
+    (semicolon-there (goal.at.returns c).Else-byte_at-ne-SEMICOLON) _
     c.is_end.ensures
