@@ -19,7 +19,7 @@ KIT = re.compile(r"^use (mathlib\.|Prim\.|lib\.|native\.|borrow\.)")
 
 
 def plain(name):
-    return re.sub(r"_lem$", "", name.replace("-", "_"))
+    return re.sub(r"_lem$", "", name.replace("-", "_")).lower()
 
 
 def common():
@@ -64,6 +64,7 @@ class Decl:
     def __init__(self, lines):
         self.lines = lines
         self.name = None
+        self.bare = False
         m = re.match(r"((?:abbrev |unfoldable |pub )*)([^\s:]+) :", lines[0])
         if m:
             self.name = m.group(2)
@@ -132,6 +133,8 @@ class Turn:
         self.accessors = set()
         self.helpers = {}
         self.inlined = {}
+        self.defs = {}
+        self.goal_names = {}
         self.said = []
 
     def need(self, name):
@@ -139,6 +142,7 @@ class Turn:
         for w in ("overflow_", "nonzero_"):
             n = n.replace(w, "")
         n = n.replace("shared_slice_read", "slice_read")
+        n = re.sub(r"^(slice_bounds|part)_", "", n)
         return n
 
     def index(self, names, rest):
@@ -178,31 +182,36 @@ class Turn:
                 return "c", rest, None
             new = self.steps.get(plain(step))
             if new:
-                after = rest[1:]
-                if after and after[0] in ("inv",):
-                    after = ["invariant"] + after[1:]
-                if len(after) > 1 and after[0] == "new" and after[1] in ("0", "1") and new in self.callee:
-                    k = 1
-                    while k < len(after) and after[k] == "1":
-                        k += 1
-                    names = self.clauses.get(self.callee[new], {}).get("params", [])
-                    if k < len(after) and after[k] == "0" and k - 1 < len(names):
-                        after = ["new", names[k - 1]] + after[k + 1:]
-                if after and after[0] == "ensures" and new in self.callee and len(after) > 1:
-                    names = self.clauses.get(self.callee[new], {}).get("ensures", [])
-                    after = ["ensures"] + self.index(names, after[1:])
-                return "c", [new] + after, None
+                return "c", [new] + self.of_step(new, rest[1:]), ("step", new) if len(rest) == 1 else None
             self.said.append(f"no step {step}")
             return "c", rest, None
         if kind == "requires":
             names = self.clauses.get(self.fn, {}).get("requires", [])
             return root, self.index(names, rest), None
+        if isinstance(kind, tuple):
+            return root, self.of_step(kind[1], rest), None
         return root, rest, None
 
-    def text(self, s, env, goal):
+    def of_step(self, new, after):
+        """What stands behind a step: the memory that a call left is named after its parameter, clauses after themselves."""
+        if after and after[0] == "inv":
+            after = ["invariant"] + after[1:]
+        said = self.clauses.get(self.callee.get(new), {})
+        if len(after) > 1 and after[0] == "new" and after[1] in ("0", "1"):
+            k = 1
+            while k < len(after) and after[k] == "1":
+                k += 1
+            names = said.get("params", [])
+            if k < len(after) and after[k] == "0" and k - 1 < len(names):
+                after = ["new", names[k - 1]] + after[k + 1:]
+        if len(after) > 1 and after[0] == "ensures":
+            after = ["ensures"] + self.index(said.get("ensures", []), after[1:])
+        return after
+
+    def text(self, s, env, goal, here=None):
         # helpers that only give an earlier place
-        for a in self.accessors:
-            for _ in range(6):
+        for _ in range(6):
+            for a in sorted(self.accessors):
                 s = re.sub(rf"\({re.escape(a)} ({IDENT}(?:\.{IDENT})*)\)", r"\1", s)
                 s = re.sub(rf"(?<![^\s(]){re.escape(a)} ({IDENT}(?:\.{IDENT})*)", r"\1", s)
         # names for places
@@ -221,6 +230,8 @@ class Turn:
                     continue
                 if kind == "requires":
                     env[var] = "requires"
+                elif isinstance(kind, tuple):
+                    env[var] = kind
                 elif var in env:
                     del env[var]
                 done.append(f"let {var} = {'.'.join([r] + parts)} in")
@@ -241,22 +252,45 @@ class Turn:
         # a test of `!x` says it of x today
         s = re.sub(rf"(?<![^\s(])not-(?:true|false) (?:{IDENT}(?:\.{IDENT})*|\([^()]*\)) ({IDENT}(?:\.{IDENT})*)", r"\1", s)
         s = re.sub(rf"\((c(?:\.{IDENT})+)\)", r"\1", s)
+        # an answer that another cites
+        for old, new in self.goal_names.items():
+            s = re.sub(rf"(?<![^\s(]){re.escape(old)} c(?![\w.'-])", f"{new} c", s)
+        # port.py took a field `fits` of our own for the kit's
+        s = re.sub(r"(?<=[\w')-])(?<!\bc)\.ranges\b", ".fits", s)
         # helpers
         for h in reversed(list(self.inlined)):
             if self.inlined[h] is None:
                 continue
             was = s
             s = re.sub(rf"(?<![^\s(]){re.escape(h)} c(?![\w.'-])", h, s)
-            if s != was and goal != "helper":
-                s = f"\n    let {h} : {self.inlined[h][0]} =\n        {self.inlined[h][1]} in" + (s if s.startswith("\n") else "\n    " + s.lstrip())
+            if s != was:
+                kind = f" : {self.inlined[h][0]}" if self.inlined[h][0] else ""
+                given = f"let {h}{kind} =\n        {self.inlined[h][1]} in"
+                if s.lstrip().startswith("→"):
+                    s = " →\n    " + given + " " + s.lstrip().removeprefix("→").lstrip()
+                else:
+                    s = "\n    " + given + (s if s.startswith("\n") else "\n    " + s.lstrip())
         for h, (place, used) in self.helpers.items():
             if h in self.inlined:
+                continue
+            if goal == "helper" and here and place != here and h in self.defs:
+                was = s
+                s = re.sub(rf"(?<![^\s(]){re.escape(h)} c(?![\w.'-])", h, s)
+                if s != was:
+                    kind = f" : {self.defs[h][0]}" if self.defs[h][0] else ""
+                    given = f"let {h}{kind} =\n        {self.defs[h][1]} in"
+                    if s.lstrip().startswith("→"):
+                        s = " →\n    " + given + " " + s.lstrip().removeprefix("→").lstrip()
+                    else:
+                        s = "\n    " + given + (s if s.startswith("\n") else "\n    " + s.lstrip())
                 continue
             if goal == "helper":
                 to = "c"
             else:
                 to = "c" if self.place_of.get(goal) == place else f"(goal.at.{goal} c).{place}"
             s = re.sub(rf"(?<![^\s(]){re.escape(h)} c(?![\w.'-])", f"{h} {to}", s)
+        for h in list(self.inlined) + list(self.defs):
+            s = s.replace(f"({h})", h)
         return s
 
 
@@ -350,10 +384,7 @@ def settle(t, entry, ds):
                 g = t.needs.get(t.need(m.group(1))) if m else None
                 if g:
                     users[h].add(t.place_of[g])
-    for root in {find(h) for h in t.helpers}:
-        members = [h for h in t.helpers if find(h) == root]
-        own = [t.helpers[h][0] for h in members]
-        goals = set().union(*(users[h] for h in members))
+    def best_of(own, goals):
         best = None
         for q in sorted(t.asked):
             if q.endswith("-1"):
@@ -362,7 +393,13 @@ def settle(t, entry, ds):
             if all(o in up for o in own) and all(q in above(g) for g in goals):
                 if best is None or len(up) < len(above(best)):
                     best = q
+        return best
+
+    for root in {find(h) for h in t.helpers}:
+        members = [h for h in t.helpers if find(h) == root]
+        common = best_of([t.helpers[h][0] for h in members], set().union(*(users[h] for h in members)))
         for h in members:
+            best = common or best_of([t.helpers[h][0]], users[h])
             if best:
                 t.helpers[h] = (best, [])
             elif t.helpers[h][0] not in t.asked or t.helpers[h][0].endswith("-1"):
@@ -406,9 +443,18 @@ def convert(folder, entry, clauses, common_names):
         sig, unf, body = d.split()
         s = "\n".join(sig)
         m = re.match(rf"(?:abbrev |pub )*{re.escape(d.name)} :\s+\((\w+) : tie\.([\w-]+)", s)
-        if m and not s.split(" : ", 1)[1].startswith("tie."):
+        if not m:
+            m = re.match(rf"((?:abbrev |pub )*{re.escape(d.name)}) :\s+tie\.((?!Need-|invariant-|decreases-)[\w-]+)((?:\s+(?:invariant|decreases)-[\w-]+)*) →", s)
+            if m:
+                d.lines = (m.group(1) + " : (c : tie." + m.group(2) + m.group(3) + ") →" + s[m.end():]).split("\n") + unf + body
+                d.bare = True
+        if m:
             t.helpers[d.name] = (t.places.get(plain(m.group(2)), "?" + m.group(2)), [])
             helper_defs[d.name] = d
+    for d in ds:
+        m = d.name and re.search(r":\s+tie\.Need-([\w-]+)", "\n".join(d.lines[:3]))
+        if m and t.needs.get(t.need(m.group(1))):
+            t.goal_names[d.name] = t.needs[t.need(m.group(1))]
     settle(t, entry, ds)
     for d in ds:
         if d.record:
@@ -486,6 +532,8 @@ def convert(folder, entry, clauses, common_names):
                         break
                 if callee in clauses:
                     rhs = by_clause(rhs, clauses[callee]["requires"])
+            if re.search(r"-1\.given\b", rhs) and not re.search(r"read_at|ℤ", rhs):
+                continue
             if params and params[0] != "c":
                 params[0] = "c"
             ans.append(f"pub {new} : goal.{new}\n" + "".join(u + "\n" for u in unf) + f"{new} {' '.join(params)} ={rhs}")
@@ -494,21 +542,26 @@ def convert(folder, entry, clauses, common_names):
             m = re.match(rf"((?:abbrev |pub )*{re.escape(d.name)} :\s+)\((\w+) : tie\.([\w-]+)(?:\s+(?:invariant|decreases)-[\w-]+)*\)", s)
             place, _ = t.helpers[d.name]
             env = {m.group(2): "place"}
-            rest = t.text(s[m.end():], dict(env), "helper")
+            rest = t.text(s[m.end():], dict(env), "helper", place)
             first = b.split(" =", 1)
             params = first[0].split()[1:]
             env = {params[0]: "place"}
-            rhs = t.text(first[1], env, "helper")
+            rhs = t.text(first[1], env, "helper", place)
             params[0] = "c"
+            spare = " ".join(params[1:])
+            if "{" not in spare:
+                t.defs[d.name] = ("" if d.mods.startswith("abbrev") else " ".join(rest.split()).removeprefix("→ "), (f"λ {spare}. " if spare else "") + rhs.strip())
             if d.name in t.inlined:
                 more = " ".join(params[1:])
                 said.append(f"{d.name} is written out where it is used")
                 kind = " ".join(rest.split()).removeprefix("→ ")
-                t.inlined[d.name] = (kind, (f"λ {more}. " if more else "") + rhs.strip())
+                if "{" in more:
+                    said.append(f"{d.name} has hidden arguments: by hand")
+                t.inlined[d.name] = ("" if d.mods.startswith("abbrev") else kind, (f"λ {more}. " if more else "") + rhs.strip())
                 continue
             if place not in t.asked:
                 said.append(f"{d.name}: place {place} can't be named")
-            ans.append(f"{d.name} : (c : {place}){rest}\n" + "".join(u + "\n" for u in unf) + f"{d.name} {' '.join(params)} ={rhs}")
+            ans.append(f"{d.mods}{d.name} : (c : {place}){rest}\n" + "".join(u + "\n" for u in unf) + f"{d.name} {' '.join(params)} ={rhs}")
             continue
         if "tie." in s:
             said.append(f"left as it was: {d.name}")
