@@ -178,26 +178,31 @@ class Turn:
                 return "c", rest, None
             new = self.steps.get(plain(step))
             if new:
-                after = rest[1:]
-                if after and after[0] in ("inv",):
-                    after = ["invariant"] + after[1:]
-                if len(after) > 1 and after[0] == "new" and after[1] in ("0", "1") and new in self.callee:
-                    k = 1
-                    while k < len(after) and after[k] == "1":
-                        k += 1
-                    names = self.clauses.get(self.callee[new], {}).get("params", [])
-                    if k < len(after) and after[k] == "0" and k - 1 < len(names):
-                        after = ["new", names[k - 1]] + after[k + 1:]
-                if after and after[0] == "ensures" and new in self.callee and len(after) > 1:
-                    names = self.clauses.get(self.callee[new], {}).get("ensures", [])
-                    after = ["ensures"] + self.index(names, after[1:])
-                return "c", [new] + after, None
+                return "c", [new] + self.of_step(new, rest[1:]), ("step", new) if len(rest) == 1 else None
             self.said.append(f"no step {step}")
             return "c", rest, None
         if kind == "requires":
             names = self.clauses.get(self.fn, {}).get("requires", [])
             return root, self.index(names, rest), None
+        if isinstance(kind, tuple):
+            return root, self.of_step(kind[1], rest), None
         return root, rest, None
+
+    def of_step(self, new, after):
+        """What stands behind a step: the memory that a call left is named after its parameter, clauses after themselves."""
+        if after and after[0] == "inv":
+            after = ["invariant"] + after[1:]
+        said = self.clauses.get(self.callee.get(new), {})
+        if len(after) > 1 and after[0] == "new" and after[1] in ("0", "1"):
+            k = 1
+            while k < len(after) and after[k] == "1":
+                k += 1
+            names = said.get("params", [])
+            if k < len(after) and after[k] == "0" and k - 1 < len(names):
+                after = ["new", names[k - 1]] + after[k + 1:]
+        if len(after) > 1 and after[0] == "ensures":
+            after = ["ensures"] + self.index(said.get("ensures", []), after[1:])
+        return after
 
     def text(self, s, env, goal):
         # helpers that only give an earlier place
@@ -221,6 +226,8 @@ class Turn:
                     continue
                 if kind == "requires":
                     env[var] = "requires"
+                elif isinstance(kind, tuple):
+                    env[var] = kind
                 elif var in env:
                     del env[var]
                 done.append(f"let {var} = {'.'.join([r] + parts)} in")
@@ -486,6 +493,8 @@ def convert(folder, entry, clauses, common_names):
                         break
                 if callee in clauses:
                     rhs = by_clause(rhs, clauses[callee]["requires"])
+            if re.search(r"-1\.given\b", rhs):
+                continue
             if params and params[0] != "c":
                 params[0] = "c"
             ans.append(f"pub {new} : goal.{new}\n" + "".join(u + "\n" for u in unf) + f"{new} {' '.join(params)} ={rhs}")

@@ -29,7 +29,7 @@ use Rattle.record_fields.specs.declared.refusal.Refusal.{Refusal}
 use Rattle.record_fields.specs.Meaning.{table_of, layouts_of}
 use Rattle.record_fields.proofs.Acceptance.{accepted-sized, refusal_heading}
 use Rattle.record_fields.proofs.Heading.{heading_good}
-use Rattle.record_fields.proofs.SaysRow.{tells_row}
+use Rattle.record_fields.proofs.SaysRow.{told_row}
 use Rattle.record_fields.proofs.Meaning.{accepted_fair, accepted_fits}
 use Rattle.record_arrays.specs.Sides.{holds}
 use Rattle.record_arrays.specs.Shown.{shown_count, shown_displacement}
@@ -216,7 +216,7 @@ module _ (s : List ℕ) (a : refusal s ≡ 0) where
   run-refused-most : length (refused_line (told_of s (run_refusal s most_turns))) ≤ 30
   run-refused-most =
       refused-line-most (told_of s (run_refusal s most_turns)) (run-number s a)
-      (row-most (tells_row s (run-own s most_turns refl) refl) (λ _. few-leaves))
+      (row-most (told_row s (run-own s most_turns refl) refl) (λ _. few-leaves))
 
 -- below the five lines: the run's and two orders, or its refusal
 run-most : (s : List ℕ) → refusal s ≡ 0 → length (of_the_run s) ≤ 3902

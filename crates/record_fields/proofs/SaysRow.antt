@@ -110,6 +110,6 @@ pub tells-row_in : (P : Parts) {k : ℕ} {answer : Refusal} → (tells_row k ≡
 tells-row_in P own e = subst (λ a. SaysRow P a.number a.row) (sym e) (says-row_in P own)
 
 -- and of a record
-pub tells_row : (s : List ℕ) {k : ℕ} {answer : Refusal} → OwnRow s k → answer ≡ told_of s k →
+pub told_row : (s : List ℕ) {k : ℕ} {answer : Refusal} → OwnRow s k → answer ≡ told_of s k →
     SaysRow (parts s) answer.number answer.row
-tells_row s is e = tells-row_in (parts s) (own_contents s is) e
+told_row s is e = tells-row_in (parts s) (own_contents s is) e

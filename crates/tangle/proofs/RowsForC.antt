@@ -5,7 +5,7 @@ use Rattle.record_fields.specs.declared.refusal.Refusal.{Refusal}
 use Rattle.record_fields.specs.Fields.{Parts, parts}
 use Rattle.record_fields.specs.Told.{SaysRow}
 use Rattle.record_fields.proofs.Told.{refusal-own, set-hold-own}
-use Rattle.record_fields.proofs.SaysRow.{tells_row, tells-row_in}
+use Rattle.record_fields.proofs.SaysRow.{told_row, tells-row_in}
 use Rattle.record_unpacking.proofs.Unpacked.{unpack-own}
 use Rattle.record_packing.proofs.Packed.{pack-own}
 use Rattle.calls_show.specs.declared.answers.SquaredEntanglement.{SquaredEntanglement}
@@ -50,47 +50,47 @@ thousandths_form P (in_thousandths.Refused r) says = says
 
 pub rows_for_c : RowsForC
 rows_for_c = record {
-  check = λ s answer g. alone (λ a p. tells_row s (refusal-own s refl) p.answers) g;
-  order = λ s side out answer out' g. alone (λ a p. tells_row s (order-own s side out refl) p.answers) g;
+  check = λ s answer g. alone (λ a p. told_row s (refusal-own s refl) p.answers) g;
+  order = λ s side out answer out' g. alone (λ a p. told_row s (order-own s side out refl) p.answers) g;
   count =
       λ s answer g.
-      in_form (λ x. x.refusal) (λ x. x.row) (λ a p. tells_row s (refusal-own s refl) (ap (λ c. c.refusal) p.answers)) g;
+      in_form (λ x. x.refusal) (λ x. x.row) (λ a p. told_row s (refusal-own s refl) (ap (λ c. c.refusal) p.answers)) g;
   squared_entanglement =
       λ s answer g.
       in_form (λ x. x.refusal) (λ x. x.row)
-      (λ a p. squared_form (parts s) a (tells_row s (refusal-own s refl) (ap squared_refusal p.answers ∙ squared-told s))) g;
+      (λ a p. squared_form (parts s) a (told_row s (refusal-own s refl) (ap squared_refusal p.answers ∙ squared-told s))) g;
   thousandths =
       λ s answer g.
       in_form (λ x. x.refusal) (λ x. x.row)
-      (λ a p. thousandths_form (parts s) a (tells_row s (refusal-own s refl) (thousandths-told s a p.answers))) g;
+      (λ a p. thousandths_form (parts s) a (told_row s (refusal-own s refl) (thousandths-told s a p.answers))) g;
   free =
       λ s side answer s' g.
-      in_form (λ x. x.refusal) (λ x. x.row) (λ a p. tells_row s (free_own s side refl) (ap (λ c. c.refusal) p.answers)) g;
+      in_form (λ x. x.refusal) (λ x. x.row) (λ a p. told_row s (free_own s side refl) (ap (λ c. c.refusal) p.answers)) g;
   run =
       λ s allowance answer s' g.
-      in_form (λ x. x.refusal) (λ x. x.row) (λ a p. tells_row s (run-own s allowance refl) (ap (λ c. c.refusal) p.answers)) g;
-  hands = λ s hands answer s' g. alone (λ a p. tells_row s (hands-own s hands refl) p.answers) g;
+      in_form (λ x. x.refusal) (λ x. x.row) (λ a p. told_row s (run-own s allowance refl) (ap (λ c. c.refusal) p.answers)) g;
+  hands = λ s hands answer s' g. alone (λ a p. told_row s (hands-own s hands refl) p.answers) g;
   better =
       λ s side first second answer g.
       in_form (λ x. x.refusal) (λ x. x.row)
-      (λ a p. tells_row s (compare-own s side first second refl) (ap (λ c. c.refusal) p.answers)) g;
-  better_check = λ s side first second answer g. alone (λ a p. tells_row s (compare-own s side first second refl) p.answers) g;
+      (λ a p. told_row s (compare-own s side first second refl) (ap (λ c. c.refusal) p.answers)) g;
+  better_check = λ s side first second answer g. alone (λ a p. told_row s (compare-own s side first second refl) p.answers) g;
   take_in =
       λ s side xs out answer out' g.
       in_form (λ x. x.refusal) (λ x. x.row)
-      (λ a p. tells_row s (take_in_own s side xs out refl) (ap (λ c. c.refusal) p.answers)) g;
-  hold = λ s letter answer s' g. alone (λ a p. tells_row s (set-hold-own s letter refl) p.answers) g;
-  pin = λ s side row pin answer s' g. alone (λ a p. tells_row s (pin-own s side row refl) p.answers) g;
+      (λ a p. told_row s (take_in_own s side xs out refl) (ap (λ c. c.refusal) p.answers)) g;
+  hold = λ s letter answer s' g. alone (λ a p. told_row s (set-hold-own s letter refl) p.answers) g;
+  pin = λ s side row pin answer s' g. alone (λ a p. told_row s (pin-own s side row refl) p.answers) g;
   pack = λ P out answer out' g. alone (λ a p. tells-row_in P (pack-own P out) p.answers) g;
   unpack =
       λ s left right links left_layout right_layout o g.
       in_form (λ x. x.refusal) (λ x. x.row)
-      (λ a p. tells_row s (unpack-own s left right links left_layout right_layout refl) (ap (λ c. c.refusal) p.answers)) g;
+      (λ a p. told_row s (unpack-own s left right links left_layout right_layout refl) (ap (λ c. c.refusal) p.answers)) g;
   newick_read =
       λ text out answer out' g. ap (λ x. x.row) g.answers ∙ ap (λ c. c.refusal.row) g.called.answers;
   newick_write =
       λ s side out answer out' g.
-      in_form (λ x. x.refusal) (λ x. x.row) (λ a p. tells_row s (write-own s side out refl) (ap (λ c. c.refusal) p.answers)) g;
+      in_form (λ x. x.refusal) (λ x. x.row) (λ a p. told_row s (write-own s side out refl) (ap (λ c. c.refusal) p.answers)) g;
   merge_read = λ n table out answer out' g. ap (λ x. x.row) g.answers ∙ ap (λ a. a.row) g.called.answers;
-  merge_write = λ s side out answer out' g. alone (λ a p. tells_row s (merge-own s side out refl) p.answers) g;
+  merge_write = λ s side out answer out' g. alone (λ a p. told_row s (merge-own s side out refl) p.answers) g;
 }

@@ -19,7 +19,7 @@ returns c =
     let r = c.read_layout in
     let o = c.layout_order in
     record {
-      tells = match_tells T r.new.1.1.0 c.requires.good_rows x c.args.lay.now R c.requires.lay_len r.ensures
-          o.new.1.1.0 c.agree.result o.ensures c.agree.ensures.xs_value c.agree.ensures.fact;
+      tells = match_tells T r.new.lay c.requires.good_rows x c.args.lay.now R c.requires.lay_len r.ensures
+          o.new.out c.agree.result o.ensures c.agree.ensures.xs_value c.agree.ensures.fact;
       writes = r.ensures;
     }

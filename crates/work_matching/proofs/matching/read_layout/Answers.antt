@@ -11,7 +11,7 @@ pub loop-i-init : goal.loop-i-init
 loop-i-init c =
     let T = c.args.rows.now in
     let p = c.note_places in
-    read_none T c.requires.good_rows (take (size T) c.args.xs.now) c.args.lay.now p.new.1.1.0 p.ensures.0 p.ensures.1
+    read_none T c.requires.good_rows (take (size T) c.args.xs.now) c.args.lay.now p.new.at p.ensures.at_len p.ensures.by_index
 
 upper-below : (c : In-loop-i) →
     get_or c.args.rows.now (2 * c.loop-i.i - 2) 0 < 1024
