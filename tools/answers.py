@@ -19,7 +19,7 @@ KIT = re.compile(r"^use (mathlib\.|Prim\.|lib\.|native\.|borrow\.)")
 
 
 def plain(name):
-    return re.sub(r"_lem$", "", name.replace("-", "_"))
+    return re.sub(r"_lem$", "", name.replace("-", "_")).lower()
 
 
 def common():
@@ -64,6 +64,7 @@ class Decl:
     def __init__(self, lines):
         self.lines = lines
         self.name = None
+        self.bare = False
         m = re.match(r"((?:abbrev |unfoldable |pub )*)([^\s:]+) :", lines[0])
         if m:
             self.name = m.group(2)
@@ -132,6 +133,7 @@ class Turn:
         self.accessors = set()
         self.helpers = {}
         self.inlined = {}
+        self.goal_names = {}
         self.said = []
 
     def need(self, name):
@@ -139,6 +141,7 @@ class Turn:
         for w in ("overflow_", "nonzero_"):
             n = n.replace(w, "")
         n = n.replace("shared_slice_read", "slice_read")
+        n = re.sub(r"^(slice_bounds|part)_", "", n)
         return n
 
     def index(self, names, rest):
@@ -248,14 +251,22 @@ class Turn:
         # a test of `!x` says it of x today
         s = re.sub(rf"(?<![^\s(])not-(?:true|false) (?:{IDENT}(?:\.{IDENT})*|\([^()]*\)) ({IDENT}(?:\.{IDENT})*)", r"\1", s)
         s = re.sub(rf"\((c(?:\.{IDENT})+)\)", r"\1", s)
+        # an answer that another cites
+        for old, new in self.goal_names.items():
+            s = re.sub(rf"(?<![^\s(]){re.escape(old)} c(?![\w.'-])", f"{new} c", s)
         # helpers
         for h in reversed(list(self.inlined)):
             if self.inlined[h] is None:
                 continue
             was = s
             s = re.sub(rf"(?<![^\s(]){re.escape(h)} c(?![\w.'-])", h, s)
-            if s != was and goal != "helper":
-                s = f"\n    let {h} : {self.inlined[h][0]} =\n        {self.inlined[h][1]} in" + (s if s.startswith("\n") else "\n    " + s.lstrip())
+            if s != was:
+                kind = f" : {self.inlined[h][0]}" if self.inlined[h][0] else ""
+                given = f"let {h}{kind} =\n        {self.inlined[h][1]} in"
+                if s.lstrip().startswith("→"):
+                    s = " →\n    " + given + " " + s.lstrip().removeprefix("→").lstrip()
+                else:
+                    s = "\n    " + given + (s if s.startswith("\n") else "\n    " + s.lstrip())
         for h, (place, used) in self.helpers.items():
             if h in self.inlined:
                 continue
@@ -413,9 +424,18 @@ def convert(folder, entry, clauses, common_names):
         sig, unf, body = d.split()
         s = "\n".join(sig)
         m = re.match(rf"(?:abbrev |pub )*{re.escape(d.name)} :\s+\((\w+) : tie\.([\w-]+)", s)
-        if m and not s.split(" : ", 1)[1].startswith("tie."):
+        if not m:
+            m = re.match(rf"((?:abbrev |pub )*{re.escape(d.name)}) :\s+tie\.((?!Need-|invariant-|decreases-)[\w-]+)((?:\s+(?:invariant|decreases)-[\w-]+)*) →", s)
+            if m:
+                d.lines = (m.group(1) + " : (c : tie." + m.group(2) + m.group(3) + ") →" + s[m.end():]).split("\n") + unf + body
+                d.bare = True
+        if m:
             t.helpers[d.name] = (t.places.get(plain(m.group(2)), "?" + m.group(2)), [])
             helper_defs[d.name] = d
+    for d in ds:
+        m = d.name and re.search(r":\s+tie\.Need-([\w-]+)", "\n".join(d.lines[:3]))
+        if m and t.needs.get(t.need(m.group(1))):
+            t.goal_names[d.name] = t.needs[t.need(m.group(1))]
     settle(t, entry, ds)
     for d in ds:
         if d.record:
@@ -493,7 +513,7 @@ def convert(folder, entry, clauses, common_names):
                         break
                 if callee in clauses:
                     rhs = by_clause(rhs, clauses[callee]["requires"])
-            if re.search(r"-1\.given\b", rhs):
+            if re.search(r"-1\.given\b", rhs) and not re.search(r"read_at|ℤ", rhs):
                 continue
             if params and params[0] != "c":
                 params[0] = "c"
@@ -513,7 +533,9 @@ def convert(folder, entry, clauses, common_names):
                 more = " ".join(params[1:])
                 said.append(f"{d.name} is written out where it is used")
                 kind = " ".join(rest.split()).removeprefix("→ ")
-                t.inlined[d.name] = (kind, (f"λ {more}. " if more else "") + rhs.strip())
+                if "{" in more:
+                    said.append(f"{d.name} has hidden arguments: by hand")
+                t.inlined[d.name] = ("" if d.mods.startswith("abbrev") else kind, (f"λ {more}. " if more else "") + rhs.strip())
                 continue
             if place not in t.asked:
                 said.append(f"{d.name}: place {place} can't be named")

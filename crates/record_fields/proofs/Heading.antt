@@ -81,11 +81,11 @@ not_no true e = refl
 not_no false e = sym e
 
 -- a test of the code that was passed, and one that was not
-pub passed : {r b : Bool} → r ≡ b → not r ≡ false → b ≡ true
-passed e h = sym e ∙ not-false _ h
+pub passed : {r b : Bool} → r ≡ b → r ≡ true → b ≡ true
+passed e h = sym e ∙ h
 
-pub failed : {r b : Bool} → r ≡ b → not r ≡ true → b ≡ false
-failed e h = sym e ∙ not-true _ h
+pub failed : {r b : Bool} → r ≡ b → r ≡ false → b ≡ false
+failed e h = sym e ∙ h
 
 pub heading_good : (s : List ℕ) → heading_refusal s ≡ 0 → GoodHeading s
 unfolding heading_refusal
