@@ -133,6 +133,7 @@ class Turn:
         self.accessors = set()
         self.helpers = {}
         self.inlined = {}
+        self.defs = {}
         self.goal_names = {}
         self.said = []
 
@@ -207,10 +208,10 @@ class Turn:
             after = ["ensures"] + self.index(said.get("ensures", []), after[1:])
         return after
 
-    def text(self, s, env, goal):
+    def text(self, s, env, goal, here=None):
         # helpers that only give an earlier place
-        for a in self.accessors:
-            for _ in range(6):
+        for _ in range(6):
+            for a in sorted(self.accessors):
                 s = re.sub(rf"\({re.escape(a)} ({IDENT}(?:\.{IDENT})*)\)", r"\1", s)
                 s = re.sub(rf"(?<![^\s(]){re.escape(a)} ({IDENT}(?:\.{IDENT})*)", r"\1", s)
         # names for places
@@ -254,6 +255,8 @@ class Turn:
         # an answer that another cites
         for old, new in self.goal_names.items():
             s = re.sub(rf"(?<![^\s(]){re.escape(old)} c(?![\w.'-])", f"{new} c", s)
+        # port.py took a field `fits` of our own for the kit's
+        s = re.sub(r"(?<=[\w')-])(?<!\bc)\.ranges\b", ".fits", s)
         # helpers
         for h in reversed(list(self.inlined)):
             if self.inlined[h] is None:
@@ -270,11 +273,24 @@ class Turn:
         for h, (place, used) in self.helpers.items():
             if h in self.inlined:
                 continue
+            if goal == "helper" and here and place != here and h in self.defs:
+                was = s
+                s = re.sub(rf"(?<![^\s(]){re.escape(h)} c(?![\w.'-])", h, s)
+                if s != was:
+                    kind = f" : {self.defs[h][0]}" if self.defs[h][0] else ""
+                    given = f"let {h}{kind} =\n        {self.defs[h][1]} in"
+                    if s.lstrip().startswith("→"):
+                        s = " →\n    " + given + " " + s.lstrip().removeprefix("→").lstrip()
+                    else:
+                        s = "\n    " + given + (s if s.startswith("\n") else "\n    " + s.lstrip())
+                continue
             if goal == "helper":
                 to = "c"
             else:
                 to = "c" if self.place_of.get(goal) == place else f"(goal.at.{goal} c).{place}"
             s = re.sub(rf"(?<![^\s(]){re.escape(h)} c(?![\w.'-])", f"{h} {to}", s)
+        for h in list(self.inlined) + list(self.defs):
+            s = s.replace(f"({h})", h)
         return s
 
 
@@ -368,10 +384,7 @@ def settle(t, entry, ds):
                 g = t.needs.get(t.need(m.group(1))) if m else None
                 if g:
                     users[h].add(t.place_of[g])
-    for root in {find(h) for h in t.helpers}:
-        members = [h for h in t.helpers if find(h) == root]
-        own = [t.helpers[h][0] for h in members]
-        goals = set().union(*(users[h] for h in members))
+    def best_of(own, goals):
         best = None
         for q in sorted(t.asked):
             if q.endswith("-1"):
@@ -380,7 +393,13 @@ def settle(t, entry, ds):
             if all(o in up for o in own) and all(q in above(g) for g in goals):
                 if best is None or len(up) < len(above(best)):
                     best = q
+        return best
+
+    for root in {find(h) for h in t.helpers}:
+        members = [h for h in t.helpers if find(h) == root]
+        common = best_of([t.helpers[h][0] for h in members], set().union(*(users[h] for h in members)))
         for h in members:
+            best = common or best_of([t.helpers[h][0]], users[h])
             if best:
                 t.helpers[h] = (best, [])
             elif t.helpers[h][0] not in t.asked or t.helpers[h][0].endswith("-1"):
@@ -523,12 +542,15 @@ def convert(folder, entry, clauses, common_names):
             m = re.match(rf"((?:abbrev |pub )*{re.escape(d.name)} :\s+)\((\w+) : tie\.([\w-]+)(?:\s+(?:invariant|decreases)-[\w-]+)*\)", s)
             place, _ = t.helpers[d.name]
             env = {m.group(2): "place"}
-            rest = t.text(s[m.end():], dict(env), "helper")
+            rest = t.text(s[m.end():], dict(env), "helper", place)
             first = b.split(" =", 1)
             params = first[0].split()[1:]
             env = {params[0]: "place"}
-            rhs = t.text(first[1], env, "helper")
+            rhs = t.text(first[1], env, "helper", place)
             params[0] = "c"
+            spare = " ".join(params[1:])
+            if "{" not in spare:
+                t.defs[d.name] = ("" if d.mods.startswith("abbrev") else " ".join(rest.split()).removeprefix("→ "), (f"λ {spare}. " if spare else "") + rhs.strip())
             if d.name in t.inlined:
                 more = " ".join(params[1:])
                 said.append(f"{d.name} is written out where it is used")
@@ -539,7 +561,7 @@ def convert(folder, entry, clauses, common_names):
                 continue
             if place not in t.asked:
                 said.append(f"{d.name}: place {place} can't be named")
-            ans.append(f"{d.name} : (c : {place}){rest}\n" + "".join(u + "\n" for u in unf) + f"{d.name} {' '.join(params)} ={rhs}")
+            ans.append(f"{d.mods}{d.name} : (c : {place}){rest}\n" + "".join(u + "\n" for u in unf) + f"{d.name} {' '.join(params)} ={rhs}")
             continue
         if "tie." in s:
             said.append(f"left as it was: {d.name}")

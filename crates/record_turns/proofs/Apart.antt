@@ -15,7 +15,7 @@ use Rattle.record_arrays.specs.Apart.{TreesTaken}
 use Rattle.work_linked_trees.specs.Memory.{here, layouts_from, SideFreed}
 use Rattle.work_linked_trees.proofs.SideFreed.{freed_then}
 use Rattle.work_turns.specs.Taken.{RunTaken}
-use Rattle.work_turns.proofs.Taken.{run_then}
+use Rattle.work_turns.proofs.TurnsTaken.{run_then}
 use Rattle.record_turns.specs.Worked.{LayoutsFreed, RecordFreed, ran_from, LayoutsRan, RecordRan}
 
 module _ {s : List ℕ} {n : ℕ} (g : RecordOver s n) where

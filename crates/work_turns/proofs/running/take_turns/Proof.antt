@@ -4,7 +4,7 @@ use Rattle.tanglegram.proofs.Sides.{is-left}
 use Rattle.tanglegram.proofs.Alternating.{first_turn}
 use Rattle.work_linked_trees.proofs.OrdersAtHand.{walked}
 use Rattle.work_linked_trees.proofs.SideFreed.{memory-now, count-freed}
-use Rattle.work_turns.proofs.Taken.{gone_then}
+use Rattle.work_turns.proofs.TurnsTaken.{gone_then}
 use borrow.Author.Rules.{rules}
 use Rattle.work_turns.proofs.running.take_turns.Statement.{statement}
 use Rattle.work_turns.proofs.running.take_turns.Tie as tie
