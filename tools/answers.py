@@ -242,6 +242,13 @@ class Turn:
                 if root not in env:
                     return m.group(0)
                 r, parts, _ = self.chain(root, rest, env)
+                names = []
+                if len(parts) == 2 and parts[1] == "ensures":
+                    names = self.clauses.get(self.callee.get(parts[0]), {}).get("ensures", [])
+                if parts == ["requires"]:
+                    names = self.clauses.get(self.fn, {}).get("requires", [])
+                if len(names) > 1 and None not in names:
+                    return "(" + ", ".join(".".join([r] + parts + [n]) for n in names) + ")"
                 return ".".join([r] + parts)
 
             done.append(CHAIN.sub(sub, piece))
@@ -341,6 +348,20 @@ def by_clause(rhs, names):
         entries = entries[:k] + ["(" + ", ".join(entries[k:]) + ")"]
     if entries is not None and len(entries) == len(names):
         return lets + " record { " + "; ".join(f"{n} = {e}" for n, e in zip(names, entries)) + "; }"
+    m = re.match(r"\s*(rw (?:[^\s()]+|\([^()]*\))) (\(.*\))\s*$", tail, re.S)
+    if entries is None and m:
+        inner = parts_of(m.group(2))
+        while inner is not None and len(inner) < len(names):
+            last = parts_of(inner[-1])
+            if last is None:
+                break
+            inner = inner[:-1] + last
+        if inner is not None and len(inner) > len(names):
+            k = len(names) - 1
+            inner = inner[:k] + ["(" + ", ".join(inner[k:]) + ")"]
+        if inner is not None and len(inner) == len(names):
+            fields = "; ".join(f"{n} = {m.group(1)} ({e})" for n, e in zip(names, inner))
+            return lets + " record { " + fields + "; }"
     if entries is None and len(names) == 2 and tail.strip() not in ("omega arith", "search rules", "c.requires"):
         return lets + f"\n    let both = {tail.strip()} in\n    record {{ {names[0]} = both.0; {names[1]} = both.1; }}"
     return rhs

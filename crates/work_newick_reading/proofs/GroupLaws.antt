@@ -13,7 +13,7 @@ use Rattle.work_newick_reading.specs.Notes.{last_in, open_in, Notes, opened, clo
 use Rattle.work_newick_reading.specs.Reads.{LengthEnds, Reads}
 use Rattle.work_newick_reading.proofs.Text.{place-behind}
 use Rattle.work_newick_reading.proofs.NotesLaws.{opened_open, noted-group, open_some}
-use Rattle.work_newick_reading.proofs.ReaderLaws.{answered_0, Got, answered, with_length}
+use Rattle.work_newick_reading.proofs.ReaderLaws.{answered_0, Got, answered, reads_with_length}
 use Rattle.work_newick_reading.proofs.ReaderLaws.{group_no_first, group_no_comma, group_no_second, group_no_end, group-whole}
 
 -- where a group begins, behind its parenthesis
@@ -46,7 +46,8 @@ none_read text at T T' e = rw e refl
 
 module _ {text : List ℕ} {at : ℕ} {T : List ℕ} (b : Begun text at T) where
   -- as many groups may be opened in either sentence
-  inside : (T' : List ℕ) (from : ℕ) → open_in T' ≡ open_in (opened T) → subtree_in (511 - open_in T') (drop from text) ≡ sub T (drop from text)
+  inside : (T' : List ℕ) (from : ℕ) → open_in T' ≡ open_in (opened T) →
+      subtree_in (511 - open_in T') (drop from text) ≡ sub T (drop from text)
   inside T' from e =
       let o = e ∙ opened_open T b.notes b.few in
       let h = b.few in
@@ -136,4 +137,4 @@ module _ {text : List ℕ} {at : ℕ} {T T₁ : List ℕ} {comma : ℕ} {T₂ : 
         (noted-group x y l T b.notes b.few T₁ T₂ f.its_notes s.got.its_notes) in
         subst (λ R. Reads R text at T T₃ r)
         (sym (group-whole (sub T) text at x comma f.is_read s.is-comma y end s.got.is_read is-end))
-        (with_length text at T T₃ (group x y) (end + 1) r (omega arith) noted (length_in (drop (end + 1) text)) length)
+        (reads_with_length text at T T₃ (group x y) (end + 1) r (omega arith) noted (length_in (drop (end + 1) text)) length)

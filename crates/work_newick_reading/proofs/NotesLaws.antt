@@ -68,7 +68,8 @@ module _ (X : List ℕ) (long : length X ≡ 1025) (first : ℕ) (few : closed_i
       ∙ get_or-set_same E 1022 (closed_in X + 1) 0 (simp length-set (omega arith))
 
   row-object : last_in (row_noted first X) ≡ 1024 + closed_in X
-  row-object = get_or-set_same (set (entries_noted first X) 1022 (closed_in X + 1)) 1023 (1024 + closed_in X) 0 (simp length-set (omega arith))
+  row-object =
+      get_or-set_same (set (entries_noted first X) 1022 (closed_in X + 1)) 1023 (1024 + closed_in X) 0 (simp length-set (omega arith))
 
   row_open : open_in (row_noted first X) ≡ open_in X
   row_open =

@@ -54,10 +54,10 @@ module _ (text : List ℕ) (at : ℕ) (T T' : List ℕ) where
       (record { ahead = omega (arith, e.ahead); within = e.within; left = e.left }, omega (arith, h.1), h.2)
 
   -- with the length behind it
-  pub with_length : (f : Length → Sentence) (end r : ℕ) → at < end → ((l : Length) → Noted (f l) T T') →
+  pub reads_with_length : (f : Length → Sentence) (end r : ℕ) → at < end → ((l : Length) → Noted (f l) T T') →
       (L : LengthRead) → LengthEnds L text end r → Reads (with_length f L) text at T T' r
-  with_length f end r p n no_length h = h
-  with_length f end r p n (length_read l rest) h =
+  reads_with_length f end r p n no_length h = h
+  reads_with_length f end r p n (length_read l rest) h =
       (record { ahead = omega (arith, h.ahead); within = h.within; left = h.left }, omega (arith, h.ahead), n l)
 
 -- ---- a leaf
@@ -119,7 +119,7 @@ module _ (text : List ℕ) (at : ℕ) where
         let ahead = digits_further end leaf d in
         subst (λ R. Reads R text at T (set T 1023 leaf) r)
         (sym (leaf-good ∙ ap (λ xs. with_length (number ds) (length_in xs)) (sym d.ends.left)))
-        (with_length text at T (set T 1023 leaf) (number ds) end r ahead (λ l. noted-leaf ds l T leaf g d.says)
+        (reads_with_length text at T (set T 1023 leaf) (number ds) end r ahead (λ l. noted-leaf ds l T leaf g d.says)
         (length_in (drop end text)) h)
 
 -- ---- a group whose parenthesis was read

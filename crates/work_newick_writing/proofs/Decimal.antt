@@ -14,18 +14,21 @@ module _ (a : ℕ) where
   unfolding decimal
   decimal_one h = rw (lt-ltb a 10 h) refl
 
-  pub decimal-two : 10 ≤ a → a < 100 → decimal a ≡ (48 + a / 10) ∷ (48 + a % 10) ∷ []
+  pub decimal_two : 10 ≤ a → a < 100 → decimal a ≡ (48 + a / 10) ∷ (48 + a % 10) ∷ []
   unfolding decimal
-  decimal-two h k = rw (le-ltb a 10 h, lt-ltb a 100 k) refl
+  decimal_two h k = rw (le-ltb a 10 h, lt-ltb a 100 k) refl
 
-  pub decimal-three : 100 ≤ a → decimal a ≡ (48 + a / 100) ∷ (48 + a / 10 % 10) ∷ (48 + a % 10) ∷ []
+  pub decimal_three : 100 ≤ a → decimal a ≡ (48 + a / 100) ∷ (48 + a / 10 % 10) ∷ (48 + a % 10) ∷ []
   unfolding decimal
-  decimal-three h = rw (le-ltb a 10 (omega arith), le-ltb a 100 h) refl
+  decimal_three h = rw (le-ltb a 10 (omega arith), le-ltb a 100 h) refl
 
-  pub decimal-most : length (decimal a) ≤ 3
-  decimal-most = go (dec_lt a 10) (dec_lt a 100)
+  pub decimal_most : length (decimal a) ≤ 3
+  decimal_most = go (dec_lt a 10) (dec_lt a 100)
     where
       go : Dec (a < 10) → Dec (a < 100) → length (decimal a) ≤ 3
       go (yes h) k = rw (decimal_one h) (omega arith)
-      go (no h) (yes k) = rw (decimal-two (omega arith) k) (omega arith)
-      go (no h) (no k) = rw (decimal-three (omega arith)) (omega arith)
+      go (no h) (yes k) = rw (decimal_two (omega arith) k) (omega arith)
+      go (no h) (no k) = rw (decimal_three (omega arith)) (omega arith)
+
+-- the three, for `digits_of`
+pub ruleset decimal_digits = (decimal_one, decimal_two, decimal_three)

@@ -17,7 +17,7 @@ use Rattle.work_trees.proofs.ByNumber.{children_within}
 use Rattle.work_trees.proofs.Stores.{sets-append}
 use Rattle.work_trees.proofs.Walked.{upper_of, lower_of, last-object}
 use Rattle.work_newick_writing.specs.Counts.{written}
-use Rattle.work_newick_writing.proofs.Decimal.{decimal-most}
+use Rattle.work_newick_writing.proofs.Decimal.{decimal_most}
 
 -- ---- trees
 
@@ -40,7 +40,7 @@ written-fork i u l = refl
 
 written-most : (t : Tree) → length (written t) + 3 ≤ 6 * length (leaves t)
 unfolding leaves
-written-most (leaf a) = rw (written-leaf a) (omega (arith, decimal-most a))
+written-most (leaf a) = rw (written-leaf a) (omega (arith, decimal_most a))
 written-most (fork i u l) =
     let x = written-most u in
     let y = written-most l in

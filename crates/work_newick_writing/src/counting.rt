@@ -6,6 +6,7 @@ ghost use Rattle.work_trees.specs.Rows.{GoodRows, tree_of};
 ghost use Rattle.work_newick_writing.specs.Counts.{TextCounts, bytes_of};
 
 // How many digits a leaf's number takes, which is below 1,000.
+#[tactic(auto, using(crate::proofs::Decimal::decimal_digits))]
 fn digits_of(a: u16) -> u16
     ensures { result ≡ length (decimal a) }
 {

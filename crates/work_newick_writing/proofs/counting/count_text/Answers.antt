@@ -1,4 +1,4 @@
-use Rattle.std.proofs.Common.{arith, ◌+◌, ◌-◌, ◌<◌, ◌≤◌}
+use Rattle.std.proofs.Common.{arith, ◌+◌, ◌<◌, ◌≤◌}
 use Rattle.work_trees.specs.Rows.{size}
 use Rattle.work_trees.proofs.LeafCounts.{first_below, second_below}
 use Rattle.work_newick_writing.proofs.Counted.{counted-more, counted-all, both_most}
@@ -11,7 +11,8 @@ row_below c = omega arith
 row-most : (c : After-bytes_under-b) →
     c.bytes_under-a.result + c.bytes_under-b.result + 3 ≤ 3069
 row-most c =
-    both_most c.requires.0 c.loop-i.invariant (row_below c) c.bytes_under-a.ensures
+    let h : c.loop-i.i < size c.args.rows.now = omega arith in
+    both_most c.requires.0 c.loop-i.invariant h c.bytes_under-a.ensures
     c.bytes_under-b.ensures
 
 pub bytes_under-a-requires : goal.bytes_under-a-requires

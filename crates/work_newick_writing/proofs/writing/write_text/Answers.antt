@@ -8,7 +8,12 @@ use Rattle.work_newick_writing.proofs.writing.write_text.Goals as goal
 pub walk-requires : goal.walk-requires
 walk-requires c =
     let p = c.requires in
-    let some = p.good_rows.0.some in record { good_rows = p.good_rows; top_bound = omega arith; top_in_bounds = omega (arith, length-tree p.good_rows.0, p.rows_in_bounds) }
+    let some = p.good_rows.0.some in
+    record {
+      good_rows = p.good_rows;
+      top_bound = omega arith;
+      top_in_bounds = omega (arith, length-tree p.good_rows.0, p.rows_in_bounds);
+    }
 
 pub overflow_sub-out : goal.overflow_sub-out
 overflow_sub-out c = omega (arith, c.text_length.ensures, length-tree c.requires.good_rows.0)
