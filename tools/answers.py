@@ -248,7 +248,11 @@ class Turn:
                 if parts == ["requires"]:
                     names = self.clauses.get(self.fn, {}).get("requires", [])
                 if len(names) > 1 and None not in names:
-                    return "(" + ", ".join(".".join([r] + parts + [n]) for n in names) + ")"
+                    each = [".".join([r] + parts + [n]) for n in names]
+                    nested = each[-1]
+                    for x in reversed(each[:-1]):
+                        nested = f"({x}, {nested})"
+                    return nested
                 return ".".join([r] + parts)
 
             done.append(CHAIN.sub(sub, piece))

@@ -1,3 +1,1 @@
-pub mod Again
-pub mod ByHand
 pub mod Narrowed

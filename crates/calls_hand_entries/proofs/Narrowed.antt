@@ -12,6 +12,7 @@ use Rattle.record_arrays.specs.Sides.{is_side, side_of}
 use Rattle.record_arrays.specs.Rows.{no_row}
 use Rattle.calls_hands.specs.Refusals.{hand, hand_refusal}
 use Rattle.calls_hands.specs.Calls.{handed}
+use Rattle.calls_hand_entries.specs.declared.hand_entries.HandEntry.{HandEntry}
 use Rattle.calls_hand_entries.specs.Entries.{narrow}
 
 pub narrow-small : (x : ℕ) → x ≤ 65535 → narrow x ≡ x
@@ -47,3 +48,7 @@ pub narrow-handed : (s : List ℕ) (side row : ℕ) → row ≤ 65535 →
     relaid s (handed (layouts_of s) (hand (narrow side) (narrow row) ∷ [])) ≡ relaid s (handed (layouts_of s) (hand side row ∷ []))
 unfolding handed
 narrow-handed s side row h = rw (narrow-small row h, narrow-side side) refl
+
+-- an entry of a list that is read beyond its end
+abbrev pub no_entry : HandEntry
+no_entry = record { side = 0; row = 0 }

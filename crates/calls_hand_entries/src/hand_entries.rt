@@ -16,7 +16,7 @@ use record_fields::refusal::{Refusal, refused};
 
 // An entry: its side and its row, in 32 bits, so that no number that a caller in C has is cut down to a right one.
 #[repr(C)]
-#[derive(Drop)]
+#[derive(Clone, Copy)]
 pub struct HandEntry {
     pub side: u32,
     pub row: u32,

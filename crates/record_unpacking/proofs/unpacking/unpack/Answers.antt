@@ -65,4 +65,4 @@ returns c =
     let e = c.size_of-n.ensures in
     let r = ap (λ n. room_refusal n (length a.left.now) (length a.right.now) (length a.links.now)
     (length a.leftlayout.now) (length a.rightlayout.now)) (sym e) ∙ sym c.room_number-room.ensures ∙ c.if-room-ne0.false in
-    unpack-accepted _ _ _ _ _ _ z r e c.refused.ensures c.hold_of.ensures (c.write_parts.ensures.left_after, c.write_parts.ensures.right_after, c.write_parts.ensures.links_after, c.write_parts.ensures.leftlayout_after, c.write_parts.ensures.rightlayout_after)
+    unpack-accepted _ _ _ _ _ _ z r e c.refused.ensures c.hold_of.ensures (c.write_parts.ensures.left_after, (c.write_parts.ensures.right_after, (c.write_parts.ensures.links_after, (c.write_parts.ensures.leftlayout_after, c.write_parts.ensures.rightlayout_after))))

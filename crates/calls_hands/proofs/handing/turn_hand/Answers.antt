@@ -1,0 +1,8 @@
+-- `turn_hand` meets its contract: the row's byte turned over is put in its place, which is what one entry does.
+use Rattle.calls_hands.specs.Calls.{handed}
+use Rattle.calls_hands.proofs.handing.turn_hand.Goals as goal
+
+pub returns : goal.returns
+unfolding handed
+returns c =
+    rw (c.flipped.ensures, c.row_byte-x.ensures) at c.put_row_byte.ensures
