@@ -5,8 +5,16 @@ use Rattle.desk_words.proofs.words.after.Goals as goal
 
 pub returns-then-to-line : goal.returns-then-to-line
 returns-then-to-line c =
-    let a = c.args in record { line_value = after-space a.line.now a.from c.upto-to.result c.upto-to.ensures.value; upper_bound = omega arith }
+    let a = c.args in
+    record {
+      line_value = after-space a.line.now a.from c.upto-to.result c.upto-to.ensures.value;
+      upper_bound = omega arith;
+    }
 
 pub returns-else-to-line : goal.returns-else-to-line
 returns-else-to-line c =
-    let a = c.args in record { line_value = after-end a.line.now a.from c.upto-to.result c.upto-to.ensures.value (omega arith); upper_bound = omega arith }
+    let a = c.args in
+    record {
+      line_value = after-end a.line.now a.from c.upto-to.result c.upto-to.ensures.value (omega arith);
+      upper_bound = omega arith;
+    }

@@ -5,4 +5,8 @@ use Rattle.tangle.proofs.changing.tangle_free.Goals as goal
 
 pub returns : goal.returns
 returns c =
-    record { given = c.free-freed.result; called = free_wide c.in_16_bits.ensures c.free-freed.ensures; answers = refl }
+    record {
+      given = c.free-freed.result;
+      called = free_wide c.in_16_bits.ensures c.free-freed.ensures;
+      answers = refl;
+    }

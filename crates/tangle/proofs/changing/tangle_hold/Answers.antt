@@ -5,4 +5,8 @@ use Rattle.tangle.proofs.changing.tangle_hold.Goals as goal
 
 pub returns : goal.returns
 returns c =
-    record { given = c.set_hold-refusal.result; called = hold_wide c.in_8_bits.ensures c.set_hold-refusal.ensures; answers = refl }
+    record {
+      given = c.set_hold-refusal.result;
+      called = hold_wide c.in_8_bits.ensures c.set_hold-refusal.ensures;
+      answers = refl;
+    }

@@ -5,4 +5,8 @@ use Rattle.tangle.proofs.proposing.tangle_better.Goals as goal
 
 pub returns : goal.returns
 returns c =
-    record { given = c.compare-compared.result; called = compare_wide c.in_16_bits.ensures c.compare-compared.ensures; answers = refl }
+    record {
+      given = c.compare-compared.result;
+      called = compare_wide c.in_16_bits.ensures c.compare-compared.ensures;
+      answers = refl;
+    }

@@ -5,4 +5,8 @@ use Rattle.tangle.proofs.showing.tangle_order.Goals as goal
 
 pub returns : goal.returns
 returns c =
-    record { given = c.order-refusal.result; called = order_wide c.in_16_bits.ensures c.order-refusal.ensures; answers = refl }
+    record {
+      given = c.order-refusal.result;
+      called = order_wide c.in_16_bits.ensures c.order-refusal.ensures;
+      answers = refl;
+    }
