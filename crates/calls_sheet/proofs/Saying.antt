@@ -70,7 +70,7 @@ not-run s k h =
     go true e = rw e refl
     go false e = refl
 
-module _ (s : List ℕ) (k : ℕ) {out out' : List ℕ} {r : ℕ} (long : length out ≡ 1942) where
+module _ (s : List ℕ) (k : ℕ) {out out' : List ℕ} {r : ℕ} (long : length out ≤ 1942) where
   says : {s' : List ℕ} (third : ℕ) → (k ≡ 5 → ThirdNumber s third) → Puts (line_text s third k) out 0 r out' → s' ≡ after_line s k →
       SaysLine s k out r out' s'
   says third t p e =

@@ -16,10 +16,10 @@ returns-then-k-eq6 c =
     says-run a.s.now a.k (omega arith) heading.accepted c.if-k-eq6.true c.run_line.ensures
 
 pub shown_line-requires : goal.shown_line-requires
-shown_line-requires c = (read_heading c.read-reading.ensures c.in-Accepted.is, c.if-k-eq6.false, omega arith)
+shown_line-requires c = (read_heading c.read-reading.ensures c.in-Accepted.is, (λ e. omega arith), omega arith)
 
 pub returns : goal.returns
 returns c =
     let a = c.args in
     let heading = read_heading c.read-reading.ensures c.in-Accepted.is in
-    says-shown a.s.now a.k (omega arith) heading.accepted c.if-k-eq6.false c.shown_line.ensures
+    says-shown a.s.now a.k (omega arith) heading.accepted (λ e. omega arith) c.shown_line.ensures

@@ -1,7 +1,7 @@
 -- `turns_line`: the turns, and after them a line of the ending and the last count.
-use Rattle.std.proofs.Common.{[], arith, ◌∷◌}
+use Rattle.std.proofs.Common.{arith}
 use Rattle.work_text.proofs.Joined.{put-joined, put-long}
-use Rattle.calls_sheet.proofs.Room.{next-most, line-most}
+use Rattle.calls_sheet.proofs.Room.{next-most, line-room}
 use Rattle.calls_sheet.proofs.lines.turns_line.Goals as goal
 
 pub put_next-told-requires : goal.put_next-told-requires
@@ -13,10 +13,8 @@ pub put_line-requires : goal.put_line-requires
 put_line-requires c =
     let told = c.put_next-told.ensures in
     let begun = c.put-begun.ensures in
-    let r = c.args.ran in
-    let letter = c.ending_letter.result in
-    let line = line-most (32 ∷ letter ∷ []) (r.last ∷ []) (omega arith, tt) in
-    omega (arith, line, told.ends, put-long told, begun.ends, put-long begun, next-most r.turns (omega arith))
+    let turns = next-most c.args.ran.turns (omega arith) in
+    line-room _ _ _ _ (omega arith) (omega (arith, told.ends, put-long told, begun.ends, put-long begun, turns))
 
 pub returns : goal.returns
 returns c =

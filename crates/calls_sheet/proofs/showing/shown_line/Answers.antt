@@ -1,24 +1,8 @@
 -- `shown_line`: line by line.
 use Rattle.std.proofs.Common.{arith}
 use Rattle.calls_sheet.specs.Sheet.{line_of_record}
-use Rattle.calls_sheet.proofs.Asked.{left_side, right_side, said, said_entangled, no_line}
+use Rattle.calls_sheet.proofs.Asked.{said, said_entangled, no_line}
 use Rattle.calls_sheet.proofs.showing.shown_line.Goals as goal
-
-pub side_line-requires : goal.side_line-requires
-side_line-requires c =
-    let p = c.requires in
-    (p.0.accepted, p.0.sized, left_side, p.2)
-
-pub side_line-requires-in-3 : goal.side_line-requires-in-3
-side_line-requires-in-3 c =
-    let p = c.requires in
-    (p.0.accepted, p.0.sized, right_side, p.2)
-
-pub side_after-requires : goal.side_after-requires
-side_after-requires c = let p = c.requires in (p.0, left_side, p.2)
-
-pub side_after-requires-in-8 : goal.side_after-requires-in-8
-side_after-requires-in-8 c = let p = c.requires in (p.0, right_side, p.2)
 
 pub returns-in-1 : goal.returns-in-1
 unfolding line_of_record
