@@ -11,9 +11,8 @@ pub fn run_line(s: &mut [u8], out: &mut [u8]) -> usize
     ensures { SaysRun s.old out.old result out.new s.new }
 {
     let ran = calls_turns::run(s, MOST_TURNS);
-    let refusal = ran.refusal;
-    if refusal.number != 0 {
-        return refused_line(refusal, out);
+    if ran.refusal.number != 0 {
+        return refused_line(ran.refusal, out);
     }
     turns_line(ran, out)
 }

@@ -4,7 +4,7 @@ ghost use Rattle.desk.specs.Calls.{call_named, words_of, lent_by};
 
 use desk_words::words::place;
 
-#[derive(Drop)]
+#[derive(Clone, Copy)]
 pub enum Call {
     Check,
     Order,

@@ -8,62 +8,64 @@ use desk_words::lists::list as list_in;
 use desk_words::numbers::number;
 use desk_words::spelling::{list, next_bits, next_list, no_call};
 use desk_words::words::word;
+use std::io;
+use std::io::Stdout;
 
 // NUMBER, which for 7 and 8 is followed by the row, here and in every answer.
-fn only(number: u16, row: u16) {
-    printing::refusal(number, row);
-    printing::end();
+fn only(stdout: Stdout, number: u16, row: u16) -> io::Result<()> {
+    printing::refusal(stdout, number, row)?;
+    printing::end(stdout)
 }
 
 // check RECORD -> NUMBER
-pub fn check(s: &[u8]) {
+pub fn check(stdout: Stdout, s: &[u8]) -> io::Result<()> {
     let found = record::check(s);
-    only(found.number, found.row)
+    only(stdout, found.number, found.row)
 }
 
 // NUMBER OUT
-fn ordered(s: &[u8], side: u16, xs: &mut [u16]) {
+fn ordered(stdout: Stdout, s: &[u8], side: u16, xs: &mut [u16]) -> io::Result<()> {
     let done = calls_show::order(s, side, xs);
-    printing::refusal(done.number, done.row);
-    next_list(xs);
-    printing::end();
+    printing::refusal(stdout, done.number, done.row)?;
+    next_list(stdout, xs)?;
+    printing::end(stdout)
 }
 
 // order RECORD SIDE OUT -> NUMBER OUT
-pub fn order(line: &[u8], s: &[u8], xs: &mut [u16]) {
+pub fn order(stdout: Stdout, line: &[u8], s: &[u8], xs: &mut [u16]) -> io::Result<()> {
     let side = number(word(line, 2), 65535);
     if 65535 < side {
-        return no_call();
+        return no_call(stdout);
     }
     let n = list_in(word(line, 3), xs);
     if xs.len() < n {
-        return no_call();
+        return no_call(stdout);
     }
-    ordered(s, side as u16, &mut xs[..n])
+    ordered(stdout, s, side as u16, &mut xs[..n])
 }
 
 // NUMBER COUNT
-fn counted(answer: Counted) {
+fn counted(stdout: Stdout, answer: Counted) -> io::Result<()> {
     let refusal = answer.refusal;
-    printing::refusal(refusal.number, refusal.row);
-    printing::next(answer.count);
-    printing::end();
+    printing::refusal(stdout, refusal.number, refusal.row)?;
+    printing::next(stdout, answer.count)?;
+    printing::end(stdout)
 }
 
 // count RECORD -> NUMBER COUNT, by seen places
-pub fn count(s: &[u8]) {
-    counted(calls_show::count(s))
+pub fn count(stdout: Stdout, s: &[u8]) -> io::Result<()> {
+    counted(stdout, calls_show::count(s))
 }
 
 // pairs RECORD -> NUMBER COUNT, pair by pair
-pub fn pairs(s: &[u8]) {
-    counted(calls_show::pairs(s))
+pub fn pairs(stdout: Stdout, s: &[u8]) -> io::Result<()> {
+    counted(stdout, calls_show::pairs(s))
 }
 
 // NUMBER 0 0 none
-fn no_squared(number: u16, row: u16) {
-    printing::refusal(number, row);
-    printing::text(b" 0 0 none\n")
+fn no_squared(stdout: Stdout, number: u16, row: u16) -> io::Result<()> {
+    printing::refusal(stdout, number, row)?;
+    printing::text(stdout, b" 0 0 none\n")
 }
 
 // A ratio's bits; 0 for what is no number and so not equal to itself, which no ratio is.
@@ -77,70 +79,83 @@ fn bits(x: f64) -> u64
 }
 
 // 0 D W RATIO
-fn ratio(d: u32, w: u32, x: f64) {
-    printing::text(b"0");
-    printing::next(d);
-    printing::next(w);
-    next_bits(bits(x));
-    printing::end();
+fn ratio(stdout: Stdout, d: u32, w: u32, x: f64) -> io::Result<()> {
+    printing::text(stdout, b"0")?;
+    printing::next(stdout, d)?;
+    printing::next(stdout, w)?;
+    next_bits(stdout, bits(x))?;
+    printing::end(stdout)
 }
 
 // squared_entanglement RECORD -> NUMBER D W RATIO
-pub fn squared_entanglement(s: &[u8]) {
+pub fn squared_entanglement(stdout: Stdout, s: &[u8]) -> io::Result<()> {
     match calls_show::squared_entanglement(s) {
-        SquaredEntanglement::Ratio(d, w, x) => ratio(d, w, x),
-        SquaredEntanglement::NoRatio => no_squared(0, 0),
-        SquaredEntanglement::Refused(refusal) => no_squared(refusal.number, refusal.row),
+        SquaredEntanglement::Ratio(d, w, x) => ratio(stdout, d, w, x),
+        SquaredEntanglement::NoRatio => no_squared(stdout, 0, 0),
+        SquaredEntanglement::Refused(refusal) => no_squared(stdout, refusal.number, refusal.row),
     }
 }
 
 // NUMBER none
-fn no_thousandths(number: u16, row: u16) {
-    printing::refusal(number, row);
-    printing::text(b" none\n")
+fn no_thousandths(stdout: Stdout, number: u16, row: u16) -> io::Result<()> {
+    printing::refusal(stdout, number, row)?;
+    printing::text(stdout, b" none\n")
 }
 
 // 0 K
-fn in_thousandths(k: u32) {
-    printing::text(b"0");
-    printing::next(k);
-    printing::end();
+fn in_thousandths(stdout: Stdout, k: u32) -> io::Result<()> {
+    printing::text(stdout, b"0")?;
+    printing::next(stdout, k)?;
+    printing::end(stdout)
 }
 
 // thousandths RECORD -> NUMBER K
-pub fn thousandths(s: &[u8]) {
+pub fn thousandths(stdout: Stdout, s: &[u8]) -> io::Result<()> {
     match calls_show::thousandths(s) {
-        InThousandths::Ratio(k) => in_thousandths(k),
-        InThousandths::NoRatio => no_thousandths(0, 0),
-        InThousandths::Refused(refusal) => no_thousandths(refusal.number, refusal.row),
+        InThousandths::Ratio(k) => in_thousandths(stdout, k),
+        InThousandths::NoRatio => no_thousandths(stdout, 0, 0),
+        InThousandths::Refused(refusal) => no_thousandths(stdout, refusal.number, refusal.row),
     }
 }
 
 // better RECORD SIDE FIRST SECOND -> PART, and better_check RECORD SIDE FIRST SECOND -> NUMBER. The second list stands
 // behind the first in xs.
-pub fn better(line: &[u8], s: &[u8], xs: &mut [u16], check: bool) {
+pub fn better(
+    stdout: Stdout,
+    line: &[u8],
+    s: &[u8],
+    xs: &mut [u16],
+    check: bool,
+) -> io::Result<()> {
     let side = number(word(line, 2), 65535);
     if 65535 < side {
-        return no_call();
+        return no_call(stdout);
     }
     let a = list_in(word(line, 3), xs);
     if xs.len() < a {
-        return no_call();
+        return no_call(stdout);
     }
     let b = list_in(word(line, 4), &mut xs[a..]);
     if xs.len() - a < b {
-        return no_call();
+        return no_call(stdout);
     }
     let end = a + b;
     let lists = &xs[..];
-    compared(check, s, side as u16, &lists[..a], &lists[a..end])
+    compared(stdout, check, s, side as u16, &lists[..a], &lists[a..end])
 }
 
-fn compared<'a>(check: bool, s: &[u8], side: u16, first: &'a [u16], second: &'a [u16]) {
+fn compared<'a>(
+    stdout: Stdout,
+    check: bool,
+    s: &[u8],
+    side: u16,
+    first: &'a [u16],
+    second: &'a [u16],
+) -> io::Result<()> {
     if check {
         let found = calls_better::better_check(s, side, first, second);
-        return only(found.number, found.row);
+        return only(stdout, found.number, found.row);
     }
-    list(calls_better::better(s, side, first, second));
-    printing::end();
+    list(stdout, calls_better::better(s, side, first, second))?;
+    printing::end(stdout)
 }

@@ -6,49 +6,51 @@ use desk_words::numbers::number;
 use desk_words::room;
 use desk_words::spelling::{next_bytes, next_list, no_call};
 use desk_words::words::word;
+use std::io;
+use std::io::Stdout;
 
 // The places that there are for what is written.
 const ROOM: usize = 524288;
 
 // NUMBER N OUT
-fn read(text: &[u8], out: &mut [u16]) {
+fn read(stdout: Stdout, text: &[u8], out: &mut [u16]) -> io::Result<()> {
     let answer = calls_newick::newick_read(text, out);
     let refusal = answer.refusal;
-    printing::refusal(refusal.number, refusal.row);
-    printing::next_entry(answer.n);
-    next_list(out);
-    printing::end();
+    printing::refusal(stdout, refusal.number, refusal.row)?;
+    printing::next_entry(stdout, answer.n)?;
+    next_list(stdout, out)?;
+    printing::end(stdout)
 }
 
 // newick_read TEXT OUT -> NUMBER N OUT
-pub fn newick_read(line: &[u8], text: &[u8], xs: &mut [u16]) {
+pub fn newick_read(stdout: Stdout, line: &[u8], text: &[u8], xs: &mut [u16]) -> io::Result<()> {
     let n = list(word(line, 2), xs);
     if xs.len() < n {
-        return no_call();
+        return no_call(stdout);
     }
-    read(text, &mut xs[..n])
+    read(stdout, text, &mut xs[..n])
 }
 
 // NUMBER LENGTH OUT
-fn written(s: &[u8], side: u16, out: &mut [u8]) {
+fn written(stdout: Stdout, s: &[u8], side: u16, out: &mut [u8]) -> io::Result<()> {
     let answer = calls_newick::newick_write(s, side, out);
     let refusal = answer.refusal;
-    printing::refusal(refusal.number, refusal.row);
-    printing::next_entry(answer.length);
-    next_bytes(out);
-    printing::end();
+    printing::refusal(stdout, refusal.number, refusal.row)?;
+    printing::next_entry(stdout, answer.length)?;
+    next_bytes(stdout, out)?;
+    printing::end(stdout)
 }
 
 // newick_write RECORD SIDE OUT -> NUMBER LENGTH OUT
-pub fn newick_write(line: &[u8], s: &[u8]) {
+pub fn newick_write(stdout: Stdout, line: &[u8], s: &[u8]) -> io::Result<()> {
     let side = number(word(line, 2), 65535);
     if 65535 < side {
-        return no_call();
+        return no_call(stdout);
     }
     let mut out = room::for_bytes();
     let n = bytes(word(line, 3), &mut out);
     if ROOM < n {
-        return no_call();
+        return no_call(stdout);
     }
-    written(s, side as u16, &mut out[..n])
+    written(stdout, s, side as u16, &mut out[..n])
 }

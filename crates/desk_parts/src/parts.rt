@@ -9,6 +9,8 @@ use desk_words::room;
 use desk_words::spelling::{done, next_bytes, next_list, no_call};
 use desk_words::words::word;
 use record_unpacking::unpacking::Unpacked;
+use std::io;
+use std::io::Stdout;
 
 // The places that there are for a list or a layout.
 const ROOM: usize = 524288;
@@ -30,19 +32,19 @@ fn fit(a: usize, b: usize, c: usize, d: usize) -> bool
 }
 
 // NUMBER HOLD N
-fn heading(answer: Unpacked) {
+fn heading(stdout: Stdout, answer: Unpacked) -> io::Result<()> {
     let refusal = answer.refusal;
-    printing::refusal(refusal.number, refusal.row);
-    printing::next(answer.hold as u32);
-    printing::next_entry(answer.n)
+    printing::refusal(stdout, refusal.number, refusal.row)?;
+    printing::next(stdout, answer.hold as u32)?;
+    printing::next_entry(stdout, answer.n)
 }
 
 // unpack RECORD LEFT RIGHT LINKS LAYOUT LAYOUT -> NUMBER HOLD N LEFT RIGHT LINKS LAYOUT LAYOUT. The left list goes into
 // xs: a program's stack has room for few lists of its own.
-pub fn unpack(line: &[u8], s: &[u8], xs: &mut [u16]) {
+pub fn unpack(stdout: Stdout, line: &[u8], s: &[u8], xs: &mut [u16]) -> io::Result<()> {
     let a = list(word(line, 2), xs);
     if xs.len() < a {
-        return no_call();
+        return no_call(stdout);
     }
     let mut right = room::for_list();
     let mut links = room::for_list();
@@ -54,6 +56,7 @@ pub fn unpack(line: &[u8], s: &[u8], xs: &mut [u16]) {
     let e = bytes(word(line, 6), &mut rightlay);
     if fit(b, c, d, e) {
         return unpack_into(
+            stdout,
             s,
             &mut xs[..a],
             &mut right[..b],
@@ -62,60 +65,81 @@ pub fn unpack(line: &[u8], s: &[u8], xs: &mut [u16]) {
             &mut rightlay[..e],
         );
     }
-    no_call()
+    no_call(stdout)
 }
 
 fn unpack_into(
+    stdout: Stdout,
     s: &[u8],
     left: &mut [u16],
     right: &mut [u16],
     links: &mut [u16],
     leftlay: &mut [u8],
     rightlay: &mut [u8],
-) {
-    heading(record_unpacking::unpack(s, left, right, links, leftlay, rightlay));
-    next_list(left);
-    next_list(right);
-    next_list(links);
-    next_bytes(leftlay);
-    next_bytes(rightlay);
-    printing::end();
+) -> io::Result<()> {
+    heading(
+        stdout,
+        record_unpacking::unpack(s, left, right, links, leftlay, rightlay),
+    )?;
+    next_list(stdout, left)?;
+    next_list(stdout, right)?;
+    next_list(stdout, links)?;
+    next_bytes(stdout, leftlay)?;
+    next_bytes(stdout, rightlay)?;
+    printing::end(stdout)
 }
 
 // pack HOLD N LEFT RIGHT LINKS LAYOUT LAYOUT OUT -> NUMBER OUT
-pub fn pack(line: &[u8], out: &mut [u8], xs: &mut [u16]) {
+pub fn pack(stdout: Stdout, line: &[u8], out: &mut [u8], xs: &mut [u16]) -> io::Result<()> {
     let hold = number(word(line, 1), 255);
     if 255 < hold {
-        return no_call();
+        return no_call(stdout);
     }
     let n = number(word(line, 2), 65535);
     if 65535 < n {
-        return no_call();
+        return no_call(stdout);
     }
-    pack_lists(line, hold as u8, n as u16, out, xs)
+    pack_lists(stdout, line, hold as u8, n as u16, out, xs)
 }
 
 // The lists stand one behind the other in xs.
-fn pack_lists(line: &[u8], hold: u8, n: u16, out: &mut [u8], xs: &mut [u16]) {
+fn pack_lists(
+    stdout: Stdout,
+    line: &[u8],
+    hold: u8,
+    n: u16,
+    out: &mut [u8],
+    xs: &mut [u16],
+) -> io::Result<()> {
     let a = list(word(line, 3), xs);
     if xs.len() < a {
-        return no_call();
+        return no_call(stdout);
     }
     let b = list(word(line, 4), &mut xs[a..]);
     if xs.len() - a < b {
-        return no_call();
+        return no_call(stdout);
     }
     let d = a + b;
     let c = list(word(line, 5), &mut xs[d..]);
     if xs.len() - d < c {
-        return no_call();
+        return no_call(stdout);
     }
     let e = d + c;
     let lists = &xs[..];
-    pack_layouts(line, hold, n, &lists[..a], &lists[a..d], &lists[d..e], out)
+    pack_layouts(
+        stdout,
+        line,
+        hold,
+        n,
+        &lists[..a],
+        &lists[a..d],
+        &lists[d..e],
+        out,
+    )
 }
 
 fn pack_layouts(
+    stdout: Stdout,
     line: &[u8],
     hold: u8,
     n: u16,
@@ -123,16 +147,16 @@ fn pack_layouts(
     right: &[u16],
     links: &[u16],
     out: &mut [u8],
-) {
+) -> io::Result<()> {
     let mut leftlay = room::for_bytes();
     let a = bytes(word(line, 6), &mut leftlay);
     if ROOM < a {
-        return no_call();
+        return no_call(stdout);
     }
     let mut rightlay = room::for_bytes();
     let b = bytes(word(line, 7), &mut rightlay);
     if ROOM < b {
-        return no_call();
+        return no_call(stdout);
     }
     let packed = record_packing::pack(
         hold,
@@ -144,5 +168,5 @@ fn pack_layouts(
         &rightlay[..b],
         out,
     );
-    done(packed.number, packed.row, out)
+    done(stdout, packed.number, packed.row, out)
 }

@@ -1,6 +1,6 @@
 -- A buffer that is filled from its first place on with what a word says. The invariant of each such loop is a `Filling`:
 -- what the word says is what stands in the first n places and then what the rest of the word says.
-use Prim.Native.Nat.{ℕ, suc, ◌+◌, ◌≤◌, ◌<◌}
+use Prim.Native.Nat.{ℕ, suc, ◌≤◌, ◌<◌}
 use native.Mathlib.Omega.{arith}
 use native.Mathlib.Numerals.{add-one}
 use mathlib.Core.Path.{◌≡◌, refl, sym, ap, ◌∙◌}

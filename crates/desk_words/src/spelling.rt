@@ -2,9 +2,12 @@
 ghost use Rattle.std.specs.Prelude.{◌≡◌, ◌+◌, ◌*◌, ◌≤◌, length, take, drop};
 ghost use Rattle.desk_words.specs.Bytes.{hex_digit, spelling};
 
+use std::io;
+use std::io::Stdout;
+
 // The answer to a line that is no call.
-pub fn no_call() {
-    printing::text(b"?\n");
+pub fn no_call(stdout: Stdout) -> io::Result<()> {
+    printing::text(stdout, b"?\n")
 }
 
 // The digit of a number below 16.
@@ -33,74 +36,77 @@ fn spelled(s: &[u8], n: usize) -> [u8; 64]
 }
 
 // The digits of s, 32 bytes at most.
-fn digits(s: &[u8]) {
+fn digits(stdout: Stdout, s: &[u8]) -> io::Result<()> {
     let n = s.len();
     if n <= 32 {
         let text = spelled(s, n);
         let digits = 2 * n;
-        printing::text(&text[..digits]);
+        printing::text(stdout, &text[..digits])?;
     }
+    Ok(())
 }
 
 // A space and bytes, or a dash for none.
-pub fn next_bytes(s: &[u8]) {
-    printing::byte(b' ');
+pub fn next_bytes(stdout: Stdout, s: &[u8]) -> io::Result<()> {
+    printing::byte(stdout, b' ')?;
     if s.len() == 0 {
-        return printing::byte(b'-');
+        return printing::byte(stdout, b'-');
     }
     let mut from = 0;
     while 32 < s.len() - from {
         let to = from + 32;
-        digits(&s[from..to]);
+        digits(stdout, &s[from..to])?;
         from = to;
     }
-    digits(&s[from..]);
+    digits(stdout, &s[from..])
 }
 
 // A refusal's number and row, bytes and a line feed.
-pub fn done(number: u16, row: u16, s: &[u8]) {
-    printing::refusal(number, row);
-    next_bytes(s);
-    printing::end();
+pub fn done(stdout: Stdout, number: u16, row: u16, s: &[u8]) -> io::Result<()> {
+    printing::refusal(stdout, number, row)?;
+    next_bytes(stdout, s)?;
+    printing::end(stdout)
 }
 
 // A list with commas between, or a dash for none.
-pub fn list(xs: &[u16]) {
+pub fn list(stdout: Stdout, xs: &[u16]) -> io::Result<()> {
     if xs.len() == 0 {
-        return printing::byte(b'-');
+        return printing::byte(stdout, b'-');
     }
-    printing::entry(xs[0]);
+    printing::entry(stdout, xs[0])?;
     let mut i = 1;
     while i < xs.len() {
-        printing::byte(b',');
-        printing::entry(xs[i]);
+        printing::byte(stdout, b',')?;
+        printing::entry(stdout, xs[i])?;
         i += 1;
     }
+    Ok(())
 }
 
 // A space and a list.
-pub fn next_list(xs: &[u16]) {
-    printing::byte(b' ');
-    list(xs);
+pub fn next_list(stdout: Stdout, xs: &[u16]) -> io::Result<()> {
+    printing::byte(stdout, b' ')?;
+    list(stdout, xs)
 }
 
 // A space and a list of signed numbers with commas between, or a dash for none.
-pub fn next_table(xs: &[i32]) {
-    printing::byte(b' ');
+pub fn next_table(stdout: Stdout, xs: &[i32]) -> io::Result<()> {
+    printing::byte(stdout, b' ')?;
     if xs.len() == 0 {
-        return printing::byte(b'-');
+        return printing::byte(stdout, b'-');
     }
-    printing::signed_entry(xs[0]);
+    printing::signed_entry(stdout, xs[0])?;
     let mut i = 1;
     while i < xs.len() {
-        printing::byte(b',');
-        printing::signed_entry(xs[i]);
+        printing::byte(stdout, b',')?;
+        printing::signed_entry(stdout, xs[i])?;
         i += 1;
     }
+    Ok(())
 }
 
 // A space and the 16 hexadecimal digits of a ratio's bits.
-pub fn next_bits(bits: u64) {
-    printing::byte(b' ');
-    io::print_hex(1, bits, 16);
+pub fn next_bits(stdout: Stdout, bits: u64) -> io::Result<()> {
+    printing::byte(stdout, b' ')?;
+    digits(stdout, &bits.to_be_bytes())
 }

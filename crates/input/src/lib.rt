@@ -4,6 +4,8 @@
 ghost use Rattle.std.specs.Prelude.{◌+◌, ◌≤◌, length};
 ghost use Rattle.io.specs.Counts.{IsPrefixLen};
 
+use std::io::Read;
+
 // What came: how many bytes, in the memory's first places, and whether no read failed. Input that goes on when the
 // memory is full is not read further.
 #[derive(Drop)]
@@ -13,26 +15,27 @@ pub struct Input {
 }
 
 // One read into buf from place `from` on: how many bytes came, none at the input's end, and whether it did not fail.
-fn read_more(buf: &mut [u8], from: usize) -> Input
+fn read_more(reader: &mut impl Read, buf: &mut [u8], from: usize) -> Input
     requires { from ≤ length buf.old }
     ensures { from + result.bytes ≤ length buf.old }
 {
-    let got = libc::read(0, &mut buf[from..]);
-    let bytes = io::count(got, &buf[from..]);
-    Input {
-        bytes,
-        whole: 0 <= got,
+    match reader.read(&mut buf[from..]) {
+        Ok(bytes) => Input { bytes, whole: true },
+        Err(_) => Input {
+            bytes: 0,
+            whole: false,
+        },
     }
 }
 
-// Reads standard input into buf until it ends, until buf is full, or until a read fails.
-pub fn read_whole(buf: &mut [u8]) -> Input
+// Reads the input into buf until it ends, until buf is full, or until a read fails.
+pub fn read_whole(reader: &mut impl Read, buf: &mut [u8]) -> Input
     ensures { IsPrefixLen result.bytes buf.new }
 {
     let mut done = 0;
     let mut whole = true;
     while done < buf.len() {
-        let more = read_more(buf, done);
+        let more = read_more(reader, buf, done);
         whole = more.whole;
         if more.bytes == 0 {
             break;

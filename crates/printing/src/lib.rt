@@ -1,45 +1,48 @@
 // Text on standard output, written at once, for the desk. Numbers are the text that `work_text` puts, which is proved.
-// What cannot be written is lost.
+// Each function answers whether what it was to write could be written.
 #![tactic(auto)]
 
 ghost use Rattle.std.specs.Prelude.{◌≡◌, nat_abs};
 
+use std::io;
+use std::io::Stdout;
+
 // The bytes of s.
-pub fn text(s: &[u8]) {
-    io::write_all(1, s);
+pub fn text(stdout: Stdout, s: &[u8]) -> io::Result<()> {
+    stdout.write_all(s)
 }
 
 // One byte.
-pub fn byte(x: u8) {
+pub fn byte(stdout: Stdout, x: u8) -> io::Result<()> {
     let s = [x; 1];
-    io::write_all(1, &s);
+    stdout.write_all(&s)
 }
 
 // A number of up to 64 bits in decimal digits.
-fn wide_number(x: u64) {
+fn wide_number(stdout: Stdout, x: u64) -> io::Result<()> {
     let mut digits = [0u8; 20];
     let n = work_text::put_number(x, &mut digits, 0);
-    io::write_all(1, &digits[..n]);
+    stdout.write_all(&digits[..n])
 }
 
 // A number in decimal digits.
-pub fn number(x: u32) {
-    wide_number(x as u64);
+pub fn number(stdout: Stdout, x: u32) -> io::Result<()> {
+    wide_number(stdout, x as u64)
 }
 
 // A space, and a number in decimal digits.
-pub fn next(x: u32) {
-    io::write_all(1, b" ");
-    number(x);
+pub fn next(stdout: Stdout, x: u32) -> io::Result<()> {
+    stdout.write_all(b" ")?;
+    number(stdout, x)
 }
 
 // An entry of a list, as `number` and `next` write numbers.
-pub fn entry(x: u16) {
-    number(x as u32);
+pub fn entry(stdout: Stdout, x: u16) -> io::Result<()> {
+    number(stdout, x as u32)
 }
 
-pub fn next_entry(x: u16) {
-    next(x as u32);
+pub fn next_entry(stdout: Stdout, x: u16) -> io::Result<()> {
+    next(stdout, x as u32)
 }
 
 // How far a signed number is from 0. In 64 bits the least number of 32 has its opposite.
@@ -54,22 +57,23 @@ fn size(x: i32) -> u64
 }
 
 // A signed entry: a dash where it is below 0, and decimal digits.
-pub fn signed_entry(x: i32) {
+pub fn signed_entry(stdout: Stdout, x: i32) -> io::Result<()> {
     if x < 0 {
-        byte(b'-');
+        byte(stdout, b'-')?;
     }
-    wide_number(size(x));
+    wide_number(stdout, size(x))
 }
 
 // A refusal: its number, and its row if it has one.
-pub fn refusal(number: u16, row: u16) {
-    entry(number);
+pub fn refusal(stdout: Stdout, number: u16, row: u16) -> io::Result<()> {
+    entry(stdout, number)?;
     if row != 0 {
-        next_entry(row);
+        next_entry(stdout, row)?;
     }
+    Ok(())
 }
 
 // A line feed.
-pub fn end() {
-    io::write_all(1, b"\n");
+pub fn end(stdout: Stdout) -> io::Result<()> {
+    stdout.write_all(b"\n")
 }

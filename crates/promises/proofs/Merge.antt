@@ -58,16 +58,16 @@ module _ (n : ℕ) (table : List ℤ) (out : List ℕ) where
   twice_found : (EntryTwice table → ⊥) → twice table ≡ false
   twice_found nowhere = must_fail (twice table) (λ h. nowhere (twice_where table h))
 
-  no_size : (n ≡ 0) ⊎ (512 < n) → no_size n ≡ true
+  size_refused : (n ≡ 0) ⊎ (512 < n) → no_size n ≡ true
   unfolding no_size
-  no_size (inl e) = rw (eq-eqb n 0 e) refl
-  no_size (inr h) = rw (ne_eqb n 0 (omega arith), lt-ltb 512 n h) refl
+  size_refused (inl e) = rw (eq-eqb n 0 e) refl
+  size_refused (inr h) = rw (ne_eqb n 0 (omega arith), lt-ltb 512 n h) refl
 
   size-of : Pairs n table → no_size n ≡ false
   size-of p = unsized n p.some p.most
 
   pub told-number : {k : ℕ} → Tells n table out k → k ≡ merge_read_refusal n table out
-  told-number (tells_5 h) = reading_5 n table out (no_size h)
+  told-number (tells_5 h) = reading_5 n table out (size_refused h)
   told-number (tells_6 s h) = reading_6 n table out (unsized n s.0 s.1) h
   told-number (tells_20 p e) = reading_20 n table out (size-of p) p.long (found_none e)
   told-number (tells_21 p o e) = reading_21 n table out (size-of p) p.long (none_found o) (found_twice e)
@@ -318,18 +318,18 @@ abbrev one_list : Bool → Bool → Bool → Bool → Bool → Bool → Bool →
 one_list a b c d e f g h =
     4 when a else 6 when b else 6 when c else 6 when d else 9 when e else 10 when f else 10 when g else 14 when h else 0
 
-one_list : (a b c d e f g h : Bool) →
+one_list_of : (a b c d e f g h : Bool) →
     or_else (4 when a else 6 when b else 6 when c else 6 when d else 0)
     (or_else (9 when e else 10 when f else 10 when g else 0) (14 when h else 0))
     ≡ one_list a b c d e f g h
-one_list true b c d e f g h = refl
-one_list false true c d e f g h = refl
-one_list false false true d e f g h = refl
-one_list false false false true e f g h = refl
-one_list false false false false true f g h = refl
-one_list false false false false false true g h = refl
-one_list false false false false false false true h = refl
-one_list false false false false false false false h = refl
+one_list_of true b c d e f g h = refl
+one_list_of false true c d e f g h = refl
+one_list_of false false true d e f g h = refl
+one_list_of false false false true e f g h = refl
+one_list_of false false false false true f g h = refl
+one_list_of false false false false false true g h = refl
+one_list_of false false false false false false true h = refl
+one_list_of false false false false false false false h = refl
 
 list_alone : (a b c d e f g h : Bool) → Alone (one_list a b c d e f g h)
 list_alone a b c d e f g h =
@@ -363,7 +363,7 @@ module _ (P : Parts) (buffer : List ℕ) (some : 1 ≤ P.size) (most : P.size �
         unbroken P.left_rows left-rule,
         unbroken P.right_rows right-rule,
       ) (rest (λ a b c d e f g h. or_else (4 when a else 6 when b else 6 when c else 6 when d else 0)
-      (or_else (9 when e else 10 when f else 10 when g else 0) (14 when h else 0)) ≡ one_list a b c d e f g h) one_list)
+      (or_else (9 when e else 10 when f else 10 when g else 0) (14 when h else 0)) ≡ one_list a b c d e f g h) one_list_of)
 
   no_row-told : Alone (pack_refusal_but_rows P buffer)
   unfolding pack_refusal_but_rows

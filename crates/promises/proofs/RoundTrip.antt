@@ -80,9 +80,9 @@ there P out answer after p a left right links left_layout right_layout r o u =
     subst (λ P. CameTo P o) (parts-packed P out e) (came_to s left right links left_layout right_layout o v z)
 
 -- the parts that unpacking came to are the record's
-parts_in : (s : List ℕ) (o : UnpackOutcome) → refusal s ≡ 0 → CameTo (parts s) o → parts_in o ≡ parts s
+parts_in_are : (s : List ℕ) (o : UnpackOutcome) → refusal s ≡ 0 → CameTo (parts s) o → parts_in o ≡ parts s
 unfolding parts_of
-parts_in s o e c =
+parts_in_are s o e c =
     let n = size_of s in
     let g = accepted-sized s e in
     made (ap (λ a. a.n) c.answers) (ap (λ a. a.hold) c.answers)
@@ -108,7 +108,7 @@ read_back s left right links left_layout right_layout small o u a out h answer a
     let e = unpack_record s left right links left_layout right_layout z in
     let f = packed-parts s small e in
     let q =
-    subst (λ P. Packs P out answer after) (parts_in s o e (came_to s left right links left_layout right_layout o u z)) p in
+    subst (λ P. Packs P out answer after) (parts_in_are s o e (came_to s left right links left_layout right_layout o u z)) p in
     let k = parts-accepted s out e h in
     (ap (λ a. a.number) q.answers ∙ k, left-packed (parts s) out answer after q k (length s) (ap length f) ∙ f)
 
@@ -124,5 +124,5 @@ round_trip = record {
   pins_unpacked = λ s left right links left_layout right_layout o u a side row.
       let z : unpack_refusal s left right links left_layout right_layout ≡ 0 = sym (ap (λ a. a.refusal.number) u.answers) ∙ a in
       let e = unpack_record s left right links left_layout right_layout z in
-      ap (λ Q. byte (layout (layouts_in Q) side) row) (parts_in s o e (came_to s left right links left_layout right_layout o u z));
+      ap (λ Q. byte (layout (layouts_in Q) side) row) (parts_in_are s o e (came_to s left right links left_layout right_layout o u z));
 }

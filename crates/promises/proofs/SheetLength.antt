@@ -45,7 +45,7 @@ use Rattle.calls_sheet.specs.Sheet.{ThirdNumber, is_run, after_run, left_line, r
 use Rattle.calls_sheet.proofs.Asked.{left_side, right_side}
 use Rattle.calls_sheet.proofs.Room.{line-most}
 use Rattle.calls_sheet.proofs.Shown.{order_fits}
-use Rattle.promises.proofs.RowTold.{row_told}
+use Rattle.promises.proofs.RowTold.{row_told as rows_told}
 use Rattle.promises.proofs.SheetLines.{run-again, sheet-accepted, sheet-refused}
 
 -- a number of at most n + 1 digits, behind its space
@@ -206,7 +206,7 @@ seven_or_eight s e = go (eqb (heading_refusal s) 0) refl
 own-line-most : (s : List ℕ) → length (refused_line (told_of s (refusal s))) ≤ 30
 own-line-most s =
     refused-line-most (told_of s (refusal s)) (omega (arith, number-most s))
-    (row-most (row_told.check s (told_of s (refusal s)) (record { answers = refl })) (seven_or_eight s))
+    (row-most (rows_told.check s (told_of s (refusal s)) (record { answers = refl })) (seven_or_eight s))
 
 module _ (s : List ℕ) (a : refusal s ≡ 0) where
   few-leaves : (parts s).size ≤ 512

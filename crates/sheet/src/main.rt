@@ -3,33 +3,34 @@
 // `promises`).
 #![tactic(auto)]
 
-// Writes line k of the sheet, and answers whether that could be done. A line has at most 1,942 bytes.
-fn print_line(s: &mut [u8], k: usize) -> bool {
+use std::io;
+use std::io::Stdout;
+
+// Writes line k of the sheet. A line has at most 1,942 bytes.
+fn print_line(stdout: Stdout, s: &mut [u8], k: usize) -> io::Result<()> {
     let mut out = [0u8; 1942];
     let n = calls_sheet::line(s, k, &mut out);
-    io::write_all(1, &out[..n])
+    stdout.write_all(&out[..n])
 }
 
-// Writes the sheet of any bytes, and answers whether all of it could be written.
-fn print(s: &mut [u8]) -> bool {
+// Writes the sheet of any bytes, up to the first line that can't be written.
+fn print(stdout: Stdout, s: &mut [u8]) -> io::Result<()> {
     for k in 1..9 {
-        if !print_line(s, k) {
-            return false;
-        }
+        print_line(stdout, s, k)?;
     }
-    true
+    Ok(())
 }
 
 // One byte more than the longest record has, so that longer input is refused for its length.
-fn main() {
+fn main(rt: HostRuntime) -> io::Result<()> {
     let mut bytes = [0u8; 6143];
-    let read = input::read_whole(&mut bytes);
+    let read = input::read_whole(&mut rt.stdin(), &mut bytes);
     if !read.whole {
-        io::write_all(2, b"sheet: standard input can't be read\n");
-        return;
+        return eprintln!(rt; "sheet: standard input can't be read");
     }
     let n = read.bytes;
-    if !print(&mut bytes[..n]) {
-        io::write_all(2, b"sheet: standard output can't be written\n");
+    if print(rt.stdout(), &mut bytes[..n]).is_err() {
+        return eprintln!(rt; "sheet: standard output can't be written");
     }
+    Ok(())
 }

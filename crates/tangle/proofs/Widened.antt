@@ -183,9 +183,9 @@ hold_wide {s} {s'} {letter} {k} {a} w = widened (λ x. SetsHold s x a s') w (λ 
 
 -- ---- n, and packing: its letter and n
 
-no_size : (x : ℕ) → 65536 ≤ x → no_size x ≡ true
+no_size_wide : (x : ℕ) → 65536 ≤ x → no_size x ≡ true
 unfolding no_size
-no_size x h = rw (ne_eqb x 0 (λ e. omega arith), lt-ltb 512 x (omega arith)) refl
+no_size_wide x h = rw (ne_eqb x 0 (λ e. omega arith), lt-ltb 512 x (omega arith)) refl
 
 zero_no_size : no_size 0 ≡ true
 unfolding no_size
@@ -195,7 +195,7 @@ pub merge-read_wide : {n k : ℕ} {table : List ℤ} {out out' : List ℕ} {a : 
     MergeReads n table out a out'
 merge-read_wide {n} {k} {table} {out} {out'} {a} w = widened (λ x. MergeReads x table out a out') w (λ h p.
     let z = reading_5 0 table out zero_no_size in
-    let e = reading_5 n table out (no_size n h) in
+    let e = reading_5 n table out (no_size_wide n h) in
     record { answers = rw (← e) (rw (← z) at p.answers); afterwards = rw (← e) (rw (← z) at p.afterwards) })
 
 -- parts that are refused alike, with a number that has no row
@@ -230,7 +230,7 @@ module _ (left right links left_layout right_layout out : List ℕ) where
       where
         go : 65536 ≤ n → (b : Bool) → is_hold hold ≡ b → Packs (parts_with hold 0) out a out' → Packs (parts_with hold n) out a out'
         go h true b =
-            packs-alike (λ e. omega arith) (record { alone = refl }) (pack_5 hold 0 b zero_no_size) (pack_5 hold n b (no_size n h))
+            packs-alike (λ e. omega arith) (record { alone = refl }) (pack_5 hold 0 b zero_no_size) (pack_5 hold n b (no_size_wide n h))
         go h false b = packs-alike (λ e. omega arith) (record { alone = refl }) (pack_4 hold 0 b) (pack_4 hold n b)
 
     pub pack_wide : {hold letter n size : ℕ} → Narrowed 256 hold letter → Narrowed 65536 n size →

@@ -1,7 +1,7 @@
 -- Laws of decimal text: no 0 stands in front but 0's own, each byte is a digit, how long it is; and the kit's digits, the fewest that hold
 -- a number, are its decimal text. That it reads back as the number is said where the number of digits is defined, by Newick text
 -- (`promises/proofs/SheetNumbers`), by `decimal-true`.
-use Prim.Native.Nat.{ℕ, zero, suc, ◌+◌, ◌-◌, ◌*◌, ◌/◌, ◌%◌, ◌^◌, ◌≤◌, ◌<◌}
+use Prim.Native.Nat.{ℕ, zero, suc, ◌+◌, ◌-◌, ◌/◌, ◌%◌, ◌^◌, ◌≤◌, ◌<◌}
 use mathlib.Core.Path.{◌≡◌, refl, sym, ap, ◌∙◌}
 use mathlib.Core.Logic.{◌≢◌}
 use mathlib.Core.Bool.{Bool, true, false, cond}

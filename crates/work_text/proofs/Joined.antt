@@ -1,11 +1,11 @@
 -- Text put after text is put as one; and bytes copied into a part of memory are put there.
 use Prim.Native.Nat.{ℕ, ◌+◌, ◌-◌, ◌≤◌}
-use mathlib.Core.Path.{◌≡◌, refl, sym, ap, ◌∙◌}
-use mathlib.Core.List.{List, [], ◌++◌, append_assoc, append-nil}
+use mathlib.Core.Path.{◌≡◌, sym, ap, ◌∙◌}
+use mathlib.Core.List.{List, ◌++◌, append_assoc}
 use native.Mathlib.Omega.{arith}
-use lib.ListN.{length, take, drop, length-append, length-drop, drop_of_length-le}
-use lib.Seq.{sets, length-sets, sets-eq, take_all, take-length, drop-drop}
-use borrow.Rule.Slice.PartMut.{mid_of, put_mid}
+use lib.ListN.{length, take, drop, length-append}
+use lib.Seq.{sets, length-sets, sets-eq, drop-drop}
+use borrow.Rule.Slice.PartMut.{put_mid}
 use Rattle.work_trees.proofs.Stores.{sets-append}
 use Rattle.work_text.specs.Puts.{Puts}
 
@@ -26,15 +26,8 @@ pub put-room : {a out out' : List ℕ} {at end : ℕ} → Puts a out at end out'
     end + r ≤ length out'
 put-room p r h = omega (arith, p.ends, put-long p)
 
-module _ (s out : List ℕ) (at : ℕ) (h : at + length s ≤ length out) where
-  rest : mid_of at (length out - at) out ≡ drop at out
-  rest = take_all (length out - at) (drop at out) (omega (arith, length-drop at out))
-
-  nothing-after : drop (length out - at) (drop at out) ≡ []
-  nothing-after = drop_of_length-le (drop at out) {i = length out - at} (omega (arith, length-drop at out))
-
-  -- the memory after a copy of s to the part from `at` on
-  pub copied_put : put_mid at (length out - at) out (take (length s) s ++ drop (length s) (mid_of at (length out - at) out)) ≡ sets out at s
-  copied_put =
-      rw (nothing-after, rest, take-length s, drop-drop (length s) at out, append-nil (s ++ drop (at + length s) out))
-      (sym (sets-eq s out at h ∙ append_assoc (take at out) s (drop (at + length s) out)))
+-- the memory after s is copied to the part that begins at `at` and is as long as s
+pub copied_put : (s out : List ℕ) (at : ℕ) → at + length s ≤ length out → put_mid at (at + length s - at) out s ≡ sets out at s
+copied_put s out at h =
+    let long : at + length s - at ≡ length s = omega arith in
+    rw long (rw (drop-drop (length s) at out) (sym (sets-eq s out at h ∙ append_assoc (take at out) s (drop (at + length s) out))))

@@ -10,7 +10,9 @@ pub fn put(s: &[u8], out: &mut [u8], at: usize) -> usize
     requires { at + length s.now ≤ length out.old }
     ensures { Puts s.now out.old at result out.new }
 {
-    at + bytes::copy(s, &mut out[at..])
+    let end = at + s.len();
+    out[at..end].copy_from_slice(s);
+    end
 }
 
 // A number in decimal digits.

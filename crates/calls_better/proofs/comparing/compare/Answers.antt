@@ -27,10 +27,18 @@ pub size_of-n-requires : goal.size_of-n-requires
 size_of-n-requires c = long-enough _ (ready _ _ _ _ (sym c.comparing_number-k.ensures ∙ c.if-k-ne0.false) refl).given.accepted
 
 pub count_with-a-requires : goal.count_with-a-requires
-count_with-a-requires c = let h = at-start c in record { record_over = h.given; side_value = (h.sided, h.good-first) }
+count_with-a-requires c = let h = at-start c in
+    record {
+      record_over = h.given;
+      side_value = (h.sided, h.good-first);
+    }
 
 pub count_with-b-requires : goal.count_with-b-requires
-count_with-b-requires c = let h = at-start (goal.at.count_with-b-requires c).After-size_of-n in record { record_over = h.given; side_value = (h.sided, h.good_second) }
+count_with-b-requires c = let h = at-start (goal.at.count_with-b-requires c).After-size_of-n in
+    record {
+      record_over = h.given;
+      side_value = (h.sided, h.good_second);
+    }
 
 pub returns-then-b-a : goal.returns-then-b-a
 returns-then-b-a c =

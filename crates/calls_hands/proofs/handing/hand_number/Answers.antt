@@ -39,7 +39,10 @@ free c =
     ap (λ k. holds k (side_of c.args.side)) (sym c.hold_of.ensures) ∙ sym c.is_held.ensures ∙ c.if-is_held.false
 
 pub row_byte-requires : goal.row_byte-requires
-row_byte-requires c = record { record_over = c.requires; le_row = row-there c.args.n c.args.row (row-in-n (goal.at.row_byte-requires c).Else-not-is_row) }
+row_byte-requires c = record {
+  record_over = c.requires;
+  le_row = row-there c.args.n c.args.row (row-in-n (goal.at.row_byte-requires c).Else-not-is_row);
+}
 
 pub returns-then-not-may_change : goal.returns-then-not-may_change
 returns-then-not-may_change c =

@@ -35,7 +35,10 @@ returns-then-b-ne0 c =
     c.first_bad-b.ensures c.if-b-ne0.true c.refused.ensures
 
 pub turn_hands-requires : goal.turn_hands-requires
-turn_hands-requires c = record { record_over = over_n _ (accepted (goal.at.turn_hands-requires c).Else-k-ne0) c.size_of-n.ensures; list_value = sym c.first_bad-b.ensures ∙ c.if-b-ne0.false }
+turn_hands-requires c = record {
+  record_over = over_n _ (accepted (goal.at.turn_hands-requires c).Else-k-ne0) c.size_of-n.ensures;
+  list_value = sym c.first_bad-b.ensures ∙ c.if-b-ne0.false;
+}
 
 pub returns : goal.returns
 returns c =

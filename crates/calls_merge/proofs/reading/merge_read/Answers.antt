@@ -9,7 +9,11 @@ returns-then-k-ne0 c =
 
 pub rows_out-requires : goal.rows_out-requires
 rows_out-requires c =
-    let g = reading-good _ _ _ (sym c.reading_number-k.ensures ∙ c.if-k-ne0.false) in record { pairs = (g.its-pairs, g.named); n_in_bounds = g.room }
+    let g = reading-good _ _ _ (sym c.reading_number-k.ensures ∙ c.if-k-ne0.false) in
+    record {
+      pairs = (g.its-pairs, g.named);
+      n_in_bounds = g.room;
+    }
 
 pub returns : goal.returns
 returns c =

@@ -10,4 +10,8 @@ pub weigh_beside-requires : goal.weigh_beside-requires
 weigh_beside-requires c =
     let g = c.requires.0 in
     let some = g.sized.some in
-    let e = layout-room c.args.n g.sized.most in record { record_over = (g, c.requires.1); lay_len = (c.requires.2, omega arith) }
+    let e = layout-room c.args.n g.sized.most in
+    record {
+      record_over = (g, c.requires.1);
+      lay_len = (c.requires.2, omega arith);
+    }

@@ -8,7 +8,10 @@ pub count_leaves-requires : goal.count_leaves-requires
 count_leaves-requires c = (c.fill_side.ensures.good, refl)
 
 pub leaf_order-requires : goal.leaf_order-requires
-leaf_order-requires c = record { good_rows = (c.fill_side.ensures.good, c.count_leaves.ensures); out_len = c.requires.1 }
+leaf_order-requires c = record {
+  good_rows = (c.fill_side.ensures.good, c.count_leaves.ensures);
+  out_len = c.requires.1;
+}
 
 pub returns : goal.returns
 returns c =

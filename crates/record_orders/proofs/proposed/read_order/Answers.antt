@@ -26,7 +26,12 @@ match_layout-requires c =
     let g = c.requires.0 in
     let side = side_of c.args.side in
     let good = filled-good _ _ g side _ _ refl _ c.rows_at.ensures c.fill_rows.ensures in
-    let size = filled-size _ _ g side _ _ refl _ c.rows_at.ensures c.fill_rows.ensures in record { good_rows = good; xs_len = ap length c.copied.ensures ∙ simp length-sets; lay_len = c.requires.1 ∙ sym size }
+    let size = filled-size _ _ g side _ _ refl _ c.rows_at.ensures c.fill_rows.ensures in
+    record {
+      good_rows = good;
+      xs_len = ap length c.copied.ensures ∙ simp length-sets;
+      lay_len = c.requires.1 ∙ sym size;
+    }
 
 pub returns : goal.returns
 returns c =

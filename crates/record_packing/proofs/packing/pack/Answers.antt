@@ -33,7 +33,11 @@ returns-then-out-length_of c =
 
 pub write_record-requires : goal.write_record-requires
 write_record-requires c =
-    let n = c.length_of.ensures in record { shaped = (shape_good _ (sym c.shape_number-k.ensures ∙ c.if-k-ne0.false)).1; n_in_bounds = rw n at c.if-out-length_of.false }
+    let n = c.length_of.ensures in
+    record {
+      shaped = (shape_good _ (sym c.shape_number-k.ensures ∙ c.if-k-ne0.false)).1;
+      n_in_bounds = rw n at c.if-out-length_of.false;
+    }
 
 pub returns : goal.returns
 returns c =

@@ -13,4 +13,8 @@ pub free_apart-requires : goal.free_apart-requires
 free_apart-requires c =
     let g = c.requires.0 in
     let some = g.sized.some in
-    let e = layout-room c.args.n g.sized.most in record { record_over = c.requires; leftlay_len = (omega arith, omega arith) }
+    let e = layout-room c.args.n g.sized.most in
+    record {
+      record_over = c.requires;
+      leftlay_len = (omega arith, omega arith);
+    }

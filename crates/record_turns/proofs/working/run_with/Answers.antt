@@ -4,7 +4,10 @@ use Rattle.record_turns.proofs.Apart.{layouts-ran}
 use Rattle.record_turns.proofs.working.run_with.Goals as goal
 
 pub take_turns-requires : goal.take_turns-requires
-take_turns-requires c = record { in_memory = memory-now c.take_trees.ensures.memory; le_allowance = c.requires.record_over.1 }
+take_turns-requires c = record {
+  in_memory = memory-now c.take_trees.ensures.memory;
+  le_allowance = c.requires.record_over.1;
+}
 
 pub returns : goal.returns
 returns c =

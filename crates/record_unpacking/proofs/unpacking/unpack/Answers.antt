@@ -51,7 +51,12 @@ returns-then-room-ne0 c =
 pub write_parts-requires : goal.write_parts-requires
 write_parts-requires c =
     let a = sym c.refusal_number-k.ensures ∙ c.if-k-ne0.false in
-    let d = room-good _ _ _ _ _ _ (sym c.room_number-room.ensures ∙ c.if-room-ne0.false) in record { sized = subst (Sized _) (sym c.size_of-n.ensures) (accepted-sized _ a); n_in_bounds = (d.for_left, d.for_right, d.for_links); n_in_bounds_2 = (d.for_left_layout, d.for_right_layout) }
+    let d = room-good _ _ _ _ _ _ (sym c.room_number-room.ensures ∙ c.if-room-ne0.false) in
+    record {
+      sized = subst (Sized _) (sym c.size_of-n.ensures) (accepted-sized _ a);
+      n_in_bounds = (d.for_left, d.for_right, d.for_links);
+      n_in_bounds_2 = (d.for_left_layout, d.for_right_layout);
+    }
 
 pub hold_of-requires : goal.hold_of-requires
 hold_of-requires c =

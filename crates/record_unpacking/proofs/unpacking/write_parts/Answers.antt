@@ -19,4 +19,11 @@ returns c =
     let left = c.left_layout_at-at.ensures in
     let right = c.right_layout_at-last.ensures in
     let left_layout = c.bytes_in.ensures ∙ ap (sets a.leftlayout.now 0) (left_cut _ _ c.requires.sized left right) in
-    let right_layout = c.bytes_in-2.ensures ∙ ap (sets a.rightlayout.now 0) (right-cut _ _ c.requires.sized left right) in record { left_after = c.numbers_out.ensures; right_after = rw e at c.numbers_out-2.ensures; links_after = rw f at c.numbers_out-3.ensures; leftlayout_after = left_layout; rightlayout_after = right_layout }
+    let right_layout = c.bytes_in-2.ensures ∙ ap (sets a.rightlayout.now 0) (right-cut _ _ c.requires.sized left right) in
+    record {
+      left_after = c.numbers_out.ensures;
+      right_after = rw e at c.numbers_out-2.ensures;
+      links_after = rw f at c.numbers_out-3.ensures;
+      leftlayout_after = left_layout;
+      rightlayout_after = right_layout;
+    }

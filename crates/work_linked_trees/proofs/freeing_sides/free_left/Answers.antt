@@ -23,7 +23,11 @@ free_rows-requires c =
     walked _ c.requires.good_rows.1 _ c.requires.in_order.1 c.leaf_order.ensures in
     rw c.requires.good_rows.2 at (in_order_one _ c.requires.good_rows.1 _ at-hand) in
     let seen = other-one in
-    let apart = far_apart _ _ _ _ c.far_of_left.ensures.0 c.requires.leftlay_len.1 seen c.requires.good_rows.0.most in record { good_rows = (c.requires.good_rows.0, c.requires.leftlay_len.0); leaf_counts = (c.requires.counted.left_counts, c.requires.in_order.0, apart) }
+    let apart = far_apart _ _ _ _ c.far_of_left.ensures.0 c.requires.leftlay_len.1 seen c.requires.good_rows.0.most in
+    record {
+      good_rows = (c.requires.good_rows.0, c.requires.leftlay_len.0);
+      leaf_counts = (c.requires.counted.left_counts, c.requires.in_order.0, apart);
+    }
 
 pub returns : goal.returns
 returns c =

@@ -23,7 +23,11 @@ free_rows-requires c =
     walked _ c.requires.good_rows.0 _ c.requires.in_order.1 c.leaf_order.ensures in
     rw c.requires.good_rows.2 at (in_order_one _ c.requires.good_rows.0 _ at-hand) in
     let seen = other-one in
-    let apart = near_apart _ _ _ _ c.requires.rightlay_len.1 c.far_of_right.ensures.0 seen c.requires.good_rows.1.most in record { good_rows = (c.requires.good_rows.1, c.requires.rightlay_len.0); leaf_counts = (c.requires.counted.right_counts, c.requires.in_order.0, apart) }
+    let apart = near_apart _ _ _ _ c.requires.rightlay_len.1 c.far_of_right.ensures.0 seen c.requires.good_rows.1.most in
+    record {
+      good_rows = (c.requires.good_rows.1, c.requires.rightlay_len.0);
+      leaf_counts = (c.requires.counted.right_counts, c.requires.in_order.0, apart);
+    }
 
 pub returns : goal.returns
 returns c =

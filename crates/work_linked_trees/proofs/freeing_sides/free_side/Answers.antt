@@ -10,7 +10,13 @@ free_left-requires c =
     let counts : let a = c.args in Counted a.left.now c.count_leaves.new.many a.right.now c.count_leaves-2.new.many =
     record { left_counts = c.count_leaves.ensures; right_counts = c.count_leaves-2.ensures } in
     let m = c.requires.in_memory in
-    let order = walked _ m.left_side.good _ refl c.leaf_order.ensures in record { good_rows = (m.left_side.good, m.right_side.good, m.right_side.sized); leftlay_len = (m.left_side.long, m.one_to_one); in_order = (order, refl); counted = counts }
+    let order = walked _ m.left_side.good _ refl c.leaf_order.ensures in
+    record {
+      good_rows = (m.left_side.good, m.right_side.good, m.right_side.sized);
+      leftlay_len = (m.left_side.long, m.one_to_one);
+      in_order = (order, refl);
+      counted = counts;
+    }
 
 pub returns-then-side-eq1 : goal.returns-then-side-eq1
 returns-then-side-eq1 c =
@@ -22,7 +28,13 @@ free_right-requires c =
     record { left_counts = c.count_leaves.ensures; right_counts = c.count_leaves-2.ensures } in
     let m = c.requires.in_memory in
     let n = m.right_side.sized in
-    let order = walked _ m.right_side.good _ refl c.leaf_order-2.ensures in record { good_rows = (m.left_side.good, m.right_side.good, sym n); rightlay_len = (m.right_side.long ∙ sym n, rw (← n) at m.one_to_one); in_order = (order, refl); counted = counts }
+    let order = walked _ m.right_side.good _ refl c.leaf_order-2.ensures in
+    record {
+      good_rows = (m.left_side.good, m.right_side.good, sym n);
+      rightlay_len = (m.right_side.long ∙ sym n, rw (← n) at m.one_to_one);
+      in_order = (order, refl);
+      counted = counts;
+    }
 
 pub returns : goal.returns
 returns c =

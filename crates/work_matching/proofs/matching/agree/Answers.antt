@@ -8,7 +8,11 @@ loop-i-init c = (omega arith, refl)
 pub returns-then-xs-i : goal.returns-then-xs-i
 returns-then-xs-i c =
     let s = c.args in
-    let differs = prefix_differs s.xs.now s.ys.now c.loop-i.i s.n c.loop-i-test.true c.if-xs-i.true in record { xs_value = λ e. absurd (true≢false (sym e)); fact = λ e. differs }
+    let differs = prefix_differs s.xs.now s.ys.now c.loop-i.i s.n c.loop-i-test.true c.if-xs-i.true in
+    record {
+      xs_value = λ e. absurd (true≢false (sym e));
+      fact = λ e. differs;
+    }
 
 pub loop-i-preserved : goal.loop-i-preserved
 loop-i-preserved c =
@@ -19,4 +23,8 @@ loop-i-preserved c =
 pub returns : goal.returns
 returns c =
     let l = c.loop-i in
-    let e : l.i ≡ c.args.n = omega arith in record { xs_value = λ t. rw e at l.invariant.1; fact = λ t. absurd (true≢false t) }
+    let e : l.i ≡ c.args.n = omega arith in
+    record {
+      xs_value = λ t. rw e at l.invariant.1;
+      fact = λ t. absurd (true≢false t);
+    }

@@ -5,7 +5,11 @@ use Rattle.work_orders.proofs.between.crossings_seen.Goals as goal
 
 pub count_seen-requires : goal.count_seen-requires
 count_seen-requires c =
-    let b = c.requires in record { n_bound = (b.most, b.left_order); each = far_apart _ _ _ _ c.far_of_left.ensures.0 b.linked b.right_order b.most }
+    let b = c.requires in
+    record {
+      n_bound = (b.most, b.left_order);
+      each = far_apart _ _ _ _ c.far_of_left.ensures.0 b.linked b.right_order b.most;
+    }
 
 pub returns : goal.returns
 returns c =

@@ -22,4 +22,8 @@ loop-i-preserved c =
 pub returns : goal.returns
 returns c =
     let l = c.loop-i in
-    let e : l.i ≡ 0 = omega arith in record { at_len = l.invariant.1.long; by_index = noted-all c.args.xs.now c.args.n c.requires.0 c.requires.1 l.at (rw e at l.invariant.1); }
+    let e : l.i ≡ 0 = omega arith in
+    record {
+      at_len = l.invariant.1.long;
+      by_index = noted-all c.args.xs.now c.args.n c.requires.0 c.requires.1 l.at (rw e at l.invariant.1);
+    }

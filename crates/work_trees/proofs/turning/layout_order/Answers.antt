@@ -13,7 +13,11 @@ count_leaves-requires c =
 pub leaf_order-requires : goal.leaf_order-requires
 leaf_order-requires c =
     let good-laid : GoodRows c.exchange.new.rows =
-        rw c.exchange.ensures (exchanged-good c.args.rows.now c.args.lay.now c.requires.good_rows) in record { good_rows = (good-laid, c.count_leaves.ensures); out_len = c.requires.out_len; }
+        rw c.exchange.ensures (exchanged-good c.args.rows.now c.args.lay.now c.requires.good_rows) in
+        record {
+          good_rows = (good-laid, c.count_leaves.ensures);
+          out_len = c.requires.out_len;
+        }
 
 pub returns : goal.returns
 returns c =

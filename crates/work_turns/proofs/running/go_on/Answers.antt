@@ -15,7 +15,12 @@ loop-turns-init c =
 
 pub take_turn-turn-requires : goal.take_turn-turn-requires
 take_turn-turn-requires c =
-    let i = c.loop-turns.invariant in record { in_memory = memory-now i.0; side_value = (i.2.one, i.1.1, i.1.2); order_at_hand = (i.1.0, i.1.3) }
+    let i = c.loop-turns.invariant in
+    record {
+      in_memory = memory-now i.0;
+      side_value = (i.2.one, i.1.1, i.1.2);
+      order_at_hand = (i.1.0, i.1.3);
+    }
 
 pub shape_of-leftlay-then-turn-last : goal.shape_of-leftlay-then-turn-last
 shape_of-leftlay-then-turn-last c =

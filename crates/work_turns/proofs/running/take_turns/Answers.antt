@@ -14,17 +14,30 @@ pub count_leaves-requires-2 : goal.count_leaves-requires-2
 count_leaves-requires-2 c = (c.requires.in_memory.right_side.good, refl)
 
 pub leaf_order-requires : goal.leaf_order-requires
-leaf_order-requires c = record { good_rows = (c.requires.in_memory.left_side.good, c.count_leaves.ensures); out_len = refl }
+leaf_order-requires c = record {
+  good_rows = (c.requires.in_memory.left_side.good, c.count_leaves.ensures);
+  out_len = refl;
+}
 
 pub take_turn-turn-requires : goal.take_turn-turn-requires
 take_turn-turn-requires c =
     let w = walked _ c.requires.in_memory.left_side.good _ refl c.leaf_order.ensures in
-    let left = c.count_leaves.ensures in record { in_memory = c.requires.in_memory; side_value = (is-left, w.long, refl); order_at_hand = (w, record { left_counts = left; right_counts = c.count_leaves-2.ensures }) }
+    let left = c.count_leaves.ensures in
+    record {
+      in_memory = c.requires.in_memory;
+      side_value = (is-left, w.long, refl);
+      order_at_hand = (w, record { left_counts = left; right_counts = c.count_leaves-2.ensures });
+    }
 
 pub go_on-requires : goal.go_on-requires
 go_on-requires c =
     let f = c.take_turn-turn.ensures.side_freed in
-    let o = c.take_turn-turn.ensures.order_at_hand_2 in record { in_memory = memory-now f.in_memory; leftorder_len = (o.1, o.2, o.0, o.3); count_value = (count-freed f, c.requires.le_allowance) }
+    let o = c.take_turn-turn.ensures.order_at_hand_2 in
+    record {
+      in_memory = memory-now f.in_memory;
+      leftorder_len = (o.1, o.2, o.0, o.3);
+      count_value = (count-freed f, c.requires.le_allowance);
+    }
 
 pub returns : goal.returns
 returns c =
