@@ -1,14 +1,10 @@
-# For the other scripts, and sourced by each of them first: the repository's root as the working directory, the kit, the
-# emulator and the compilers, on Arm or on x86-64. What is missing is installed.
+# For the other scripts, and sourced by each of them first: the repository's root as the working directory, the kit and the
+# compilers. What is missing is installed. The kit, and so all of this, is for x86-64.
 set -euo pipefail
 cd "$(dirname "${BASH_SOURCE[0]}")/.."
 
-# The kit, and what it has for this machine. `emulator` runs x86-64 code: nothing on x86-64, elsewhere the kit's.
-kit=$(dirname "$(dirname "$(rt doc)")")
-machine=$(uname -m)
-toolchain=$kit/on/$machine/toolchain
-emulator=()
-[ "$machine" = x86_64 ] || emulator=("$toolchain/bin/qemu-x86_64")
+kit=$(dirname "$(rt doc)")
+toolchain=$kit/toolchain
 
 # needs COMMAND.. -- PACKAGE..: installs the packages where a command is missing.
 needs() {
@@ -21,20 +17,9 @@ needs() {
   [ -z "$missing" ] || { apt-get update && apt-get install -y --no-install-recommends "$@"; } > /dev/null
 }
 
-# Sets `tool`, the prefix of a C compiler and binutils for x86-64, the kind of machine that rt's archives are for.
-x86_tools() {
-  tool=x86_64-linux-gnu-
-  if [ "$machine" != x86_64 ]; then
-    needs "${tool}gcc" "${tool}objdump" -- gcc-x86-64-linux-gnu libc6-dev-amd64-cross binutils-x86-64-linux-gnu
-    return
-  fi
-  command -v "${tool}gcc" > /dev/null || tool=''
-  needs "${tool}gcc" "${tool}objdump" -- gcc libc6-dev binutils
-}
-
-# A C compiler for this machine.
-own_compiler() {
-  needs gcc -- gcc libc6-dev
+# A C compiler and binutils.
+compiler() {
+  needs gcc objcopy objdump -- gcc libc6-dev binutils
 }
 
 # peer_cargo COMMAND: cargo's build or test of host/peer, the independent program, which `peer` then names.

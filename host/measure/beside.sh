@@ -3,34 +3,27 @@
 # program and by turns, on the same records: balanced, caterpillar and random trees, and straight links from 1 to n, of
 # 64 and of 512 leaves. Prints nanoseconds per call before and now, and the second divided by the first. Ends with 1 if
 # an answer differs, or if a call takes more than TIMES of what it took, 1.05 if it is not given. The first comparison
-# with a commit proves its calls, in a clone under target/beside: some minutes.
+# with a commit proves its calls, in a clone under TMPDIR, outside the checkout, since `rt ci` wants every text in it to
+# belong to a crate. A commit is one that this kit proves.
 . "$(dirname "$0")/../archive.sh"
 [ $# -ge 1 ] || { echo "usage: beside.sh COMMIT [TIMES]" >&2; exit 2; }
 commit=$(git rev-parse --verify --quiet "$1^{commit}") || { echo "beside.sh: there is no commit $1" >&2; exit 2; }
 times=${2:-1.05}
-clone=target/beside/$commit work=target/measure/beside.d
+clone=${TMPDIR:-/tmp}/tangle-beside/$commit work=target/measure/beside.d
 mkdir -p "$work"
 
-own_compiler
-needs objcopy -- binutils
+compiler
 peer_cargo build
 if [ ! -e "$clone/target/staticlib/libtangle.a" ]; then
-  echo "proving the calls of $commit, some minutes"
   [ -e "$clone/.git" ] || git clone --quiet --no-checkout . "$clone"
   git -C "$clone" checkout --quiet --force "$commit"
-  mkdir -p "$clone/target/measure"
-  log=$clone/target/measure/tangle.log
-  : > "$log"
-  (cd "$clone" && unset ARCHIVES && . host/archive.sh && archive tangle) &
-  proving=$!
-  tail --pid="$proving" --follow --lines=+1 "$log" | sed -nu 's/^rt: \([a-z_]* proved\).*/\1/p'
-  wait "$proving"
+  (cd "$clone" && unset PROVED && . host/archive.sh && archive tangle)
 fi
 archive tangle
 
-# The functions of both, for this machine; those of the earlier commit have `before_` in front.
-object_here target/staticlib/libtangle.a target/measure/tangle.bc "$work/now.o"
-object_here "$clone/target/staticlib/libtangle.a" "$clone/target/measure/tangle.bc" "$work/before.o"
+# The functions of both; those of the earlier commit have `before_` in front.
+archive_object target/staticlib/libtangle.a "$work/now.o"
+archive_object "$clone/target/staticlib/libtangle.a" "$work/before.o"
 nm --defined-only --extern-only "$work/before.o" | awk '{ print $3, "before_" $3 }' > "$work/names"
 objcopy --redefine-syms="$work/names" "$work/before.o"
 # Where a function comes to stand makes a difference of some hundredths: each of both begins a page.

@@ -8,14 +8,13 @@
 # that takes most, and the bytes together with the record's own 6,142. Ends with 1 if a call takes more stack than its
 # limit (an order, reading a text, and every other call have one each), or if a call refuses or answers otherwise than
 # expected.
-# Runs on x86-64, and on Arm by a cross compiler and the kit's emulator.
 . "$(dirname "$0")/../archive.sh"
-x86_tools
+compiler
 record=6142 order_limit=8192 reading_limit=20480 limit=16384
 
 archive tangle
 linked target/measure/calls target/staticlib/libtangle.a host/measure/calls.c
-"${emulator[@]}" target/measure/calls > target/measure/calls.out
+target/measure/calls > target/measure/calls.out
 
 awk -v limit="$limit" -v order_limit="$order_limit" -v reading_limit="$reading_limit" -v record="$record" '
   !($1 in most) { name[++calls] = $1 }

@@ -5,9 +5,9 @@
 . "$(dirname "$0")/../archive.sh"
 needs llvm-readelf -- llvm
 
-archive tangle module
+archive tangle
 "$toolchain/bin/clang" --no-default-config --target=x86_64-unknown-linux-gnu -O3 -mllvm -inline-threshold=-100000 \
-  -fstack-size-section -c -x ir target/measure/tangle.bc -o target/measure/frames.o
+  -fstack-size-section -c -x ir target/staticlib/libtangle.a.bc -o target/measure/frames.o
 llvm-readelf --stack-sizes target/measure/frames.o |
   awk -v words="$*" '
     BEGIN { split(words, word, " ") }

@@ -1,20 +1,18 @@
 #!/usr/bin/env bash
 # sheet.sh [linked]: the program sheet beside the 64 KiB: the peak stack of the whole program over 512 leaves, its memory
-# for the record (6,143 bytes) and for a line (1,942) included, and its code and constants, as rt compiled it. With
-# `linked`, the call for a line beside all calls for C, in a copy of the crates in which `tangle` exports it too: some
-# minutes. Both print what it comes to, and what a text put together as a whole, 7,832 bytes, would come to. Ends with 1
-# if it takes more than 65,536 bytes, or if a line or a sheet is longer than is proved. C's functions that the code calls
-# are outside. Runs on x86-64, and on Arm by a cross compiler and the kit's emulator.
+# for the record (6,143 bytes) and for a line (1,942) included, and its code and constants, as the kit compiles it. With
+# `linked`, the call for a line beside all calls for C, in a copy of `tangle_c` which exports it too. Both print what it
+# comes to, and what a text put together as a whole, 7,832 bytes, would come to. Ends with 1 if it takes more than 65,536
+# bytes, or if a line or a sheet is longer than is proved. C's functions that the code calls are outside.
 . "$(dirname "$0")/../archive.sh"
-. host/programs.sh
-x86_tools
+compiler
 limit=65536 record=6142 line=1942 whole=7832
 
 # bytes KIND OBJECT: of code or of constants.
 bytes() {
   local sum=0 kind size
   while read -r kind size; do if [ "$kind" = "$1" ]; then sum=$((sum + 16#$size)); fi; done < <(
-    "${tool}objdump" -h "$2" | awk '
+    objdump -h "$2" | awk '
       $1 ~ /^[0-9]+$/ { size = $3 }
       /ALLOC/ { print (/CODE/ ? "code" : "constants"), size }')
   echo "$sum"
@@ -37,12 +35,11 @@ shown() {
 }
 
 if [ "${1:-}" != linked ]; then
-  [ -e target/obj/sheet.o ] || rm -f target/bin/sheet
-  built sheet
-  "${tool}objcopy" --redefine-sym main=sheet_main --redefine-sym read=sheet_read --redefine-sym write=sheet_write \
-    target/obj/sheet.o target/measure/sheet.o
-  "${tool}gcc" "${strict[@]}" -static -o target/measure/sheet host/measure/sheet.c target/measure/sheet.o
-  read -r stack longest written < <("${emulator[@]}" target/measure/sheet)
+  made sheet target/measure/made_sheet.o
+  objcopy --redefine-sym main=sheet_main --redefine-sym read=sheet_read --redefine-sym write=sheet_write \
+    target/measure/made_sheet.o target/measure/sheet.o
+  gcc "${strict[@]}" -static -o target/measure/sheet host/measure/sheet.c target/measure/sheet.o
+  read -r stack longest written < <(target/measure/sheet)
   shown 'sheet: stack, its record and its line included' "$stack" 0 0 target/measure/sheet.o
   exit
 fi
@@ -51,18 +48,19 @@ bash host/measure/calls.sh > target/measure/calls.txt || { cat target/measure/ca
 largest=$(sed -n 's/^most: \([0-9]*\) bytes of stack.*/\1/p' target/measure/calls.txt)
 copy=$(mktemp -d)
 trap 'rm -rf "$copy"' EXIT
-cp -a crates crates.txt target "$copy"
-sed -i 's/^tangle: .*/& calls_sheet/' "$copy/crates.txt"
-cat >> "$copy/crates/tangle/src/changing.rt" << 'END'
+left sheet || asked sheet check
+left tangle_c || asked tangle_c check
+cp -r crates/tangle_c/src "$copy"
+cat >> "$copy/src/changing.rt" << 'END'
 
-#[no_mangle]
+#[unsafe(no_mangle)]
 pub extern "C" fn tangle_line(s: &mut [u8], k: usize, out: &mut [u8; 1942]) -> usize {
     calls_sheet::line(s, k, out)
 }
 END
-(cd "$copy" && rt staticlib tangle) > target/measure/linked.log 2>&1 || { cat target/measure/linked.log; exit 1; }
-archive=$copy/target/staticlib/libtangle.a
-"${tool}gcc" "${strict[@]}" -DLINKED -static -o target/measure/linked host/measure/sheet.c "$archive"
-read -r stack longest written < <("${emulator[@]}" target/measure/linked)
+archive=target/measure/liblinked.a
+compiled "$copy" tangle_c "$archive" $(uses tangle_c) calls_sheet
+gcc "${strict[@]}" -DLINKED -static -o target/measure/linked host/measure/sheet.c "$archive"
+read -r stack longest written < <(target/measure/linked)
 echo "beside all calls for C: the record, $record; the largest stack of the others, $largest"
 shown 'a line of the sheet: stack, the line included' "$((stack + line))" "$largest" "$record" "$archive"

@@ -5,7 +5,7 @@
 # for any call, reading a text among them: the device has its record also while it reads one. C's functions that the
 # code calls (it names them) are outside, and so is the caller's own code and memory, lent texts and buffers included.
 . "$(dirname "$0")/../archive.sh"
-x86_tools
+compiler
 name=${1:-tangle}
 limit=65536 record=6142
 
@@ -14,7 +14,7 @@ bash host/measure/calls.sh > target/measure/calls.txt || { cat target/measure/ca
 stack=$(sed -n 's/^most: \([0-9]*\) bytes of stack.*/\1/p' target/measure/calls.txt)
 
 # The sections that a linked program has in memory: code, constants, and data that changes, of which there is none.
-"${tool}objdump" -h "target/staticlib/lib$name.a" | awk '
+objdump -h "target/staticlib/lib$name.a" | awk '
   $1 ~ /^[0-9]+$/ { section = $2; size = $3 }
   /ALLOC/ { print (/CODE/ ? "code" : /READONLY/ ? "constants" : "data"), size, section }' > target/measure/sections
 bytes() { # KIND: the sum of its sections
@@ -28,5 +28,5 @@ code=$(bytes code) constants=$(bytes constants) data=$(bytes data)
 all=$((record + stack + code + constants + data))
 printf '%-28s %6d\n' record "$record" 'stack, the largest call' "$stack" "code of lib$name.a" "$code" \
   constants "$constants" 'data that changes' "$data" together "$all" limit "$limit"
-echo "outside: $("${tool}nm" -u "target/staticlib/lib$name.a" | awk '$1 == "U" { printf "%s ", $2 }')"
+echo "outside: $(nm -u "target/staticlib/lib$name.a" | awk '$1 == "U" { printf "%s ", $2 }')"
 [ "$all" -le "$limit" ] || { echo "above the limit"; exit 1; }

@@ -10,10 +10,10 @@ work=target/measure/speed.d
 times=${1:-2}
 mkdir -p "$work"
 
-own_compiler
+compiler
 peer_cargo build
 archive tangle
-object_here target/staticlib/libtangle.a target/measure/tangle.bc "$work/calls.o"
+archive_object target/staticlib/libtangle.a "$work/calls.o"
 gcc "${strict[@]}" -o "$work/speed" host/measure/speed.c "$work/calls.o"
 
 # The left order that freeing the left of a record leaves, and the room that 512 leaves want.

@@ -1,18 +1,18 @@
 #!/usr/bin/env bash
 # changed.sh [made]: changed copies of the calls' own module, stepped as the calls are (host/reset/test.sh, which has
 # made the module then): what is wrong for an instant only must be found in the real code too. The module is taken as
-# text, stores are added where it writes a record, and it is compiled for this machine as the kit compiles it. Unchanged
+# text, stores are added where it writes a record, and it is compiled as the kit compiles it. Unchanged
 # it must pass. With layout bytes and the hold written through a wrong value every call must be found; with the other
 # side's first row turned over and back, free, hands and pin must be found where that side is held. Prints a line for
 # each; ends with 1 if one is not as it must be.
 . "$(dirname "$0")/../archive.sh"
-own_compiler
-needs objcopy -- binutils
+compiler
 
 out=target/reset
 mkdir -p "$out"
-[ "${1:-}" = made ] || archive tangle module
-module_text target/measure/tangle.bc "$out/unchanged.ll"
+module=target/staticlib/libtangle.a.bc
+[ "${1:-}" = made ] || archive tangle
+module_text "$module" "$out/unchanged.ll"
 
 # The other side's first layout byte turned over and back. A record is lent as a pointer to its pointer and its length.
 turn_and_back='define internal void @turn_and_back(ptr %lent, i16 %n, i16 %side) noinline {
@@ -44,7 +44,7 @@ changed() {
 
 # Links the stepping program with a text's functions.
 with_text() { # NAME
-  text_object "$out/$1.ll" "$out/$1.o"
+  text_object "$module" "$out/$1.ll" "$out/$1.o"
   objcopy --redefine-sym memcpy=reset_memcpy "$out/$1.o"
   gcc "${strict[@]}" -std=c11 -static -o "$out/$1" host/reset/stepped.c "$out/$1.o"
 }

@@ -4,16 +4,15 @@
 # does so with changed copies of the calls; `fenced` makes all twenty calls with every lent buffer right before and
 # right after memory that can't be touched, on damaged records by a seed, 1 if none is given. Both programs also try
 # wrong versions of the calls, which must be found. Prints what was looked at, and the seconds; ends with 1 if anything
-# is wrong. Runs on x86-64 on the archive's own code, and on Arm on the same module compiled for Arm.
+# is wrong.
 . "$(dirname "$0")/../archive.sh"
-own_compiler
-needs objcopy -- binutils
+compiler
 
 out=target/reset
 mkdir -p "$out"
-archive tangle module
+archive tangle
 started=$SECONDS
-object_here target/staticlib/libtangle.a target/measure/tangle.bc "$out/calls.o"
+archive_object target/staticlib/libtangle.a "$out/calls.o"
 
 # The calls put layouts back by C's memcpy, so that the order of these stores is the C library's. `stepped` has one of
 # its own in its place, which copies in several ways. Both are linked statically: looking a function of C's up would be

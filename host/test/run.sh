@@ -1,15 +1,12 @@
 #!/usr/bin/env bash
-# All host tests, after rt has proved the crates. Two groups go on at a time: the peer's own tests, then desk and sheet
+# All host tests; what they need of rt is proved first where .ci/run has not. Two groups go on at a time: the peer's own tests, then desk and sheet
 # beside the peer, and the sheet's stack and code; and the C boundary, then the stack, code and data of the calls, then a
 # reset at any instant. What they print stays in this order. Then speed, by itself. Ends with 1 if one of them fails, and
 # prints a group that failed last. What is missing is installed before the groups, since only one can install at a time.
 . "$(dirname "$0")/../tools.sh"
-x86_tools
-own_compiler
+compiler
 needs cargo -- cargo
-export ARCHIVES=target/test/archives
-rm -rf "$ARCHIVES"
-mkdir -p "$ARCHIVES"
+mkdir -p target/test target/measure
 
 beside_the_peer() {
   peer_cargo test > target/peer.log 2>&1 || { cat target/peer.log; return 1; }

@@ -1,9 +1,8 @@
 #!/usr/bin/env bash
-# The calls for C: builds the archive of crates/tangle, compiles test.c and viewer.c against it, runs both. Ends with 0
-# and one line that says so only if every check passed. Runs on x86-64, and on Arm by a cross compiler and the kit's
-# emulator.
+# The calls for C: builds the archive of crates/tangle_c, compiles test.c and viewer.c against it, runs both. Ends with 0
+# and one line that says so only if every check passed.
 . "$(dirname "$0")/../archive.sh"
-x86_tools
+compiler
 
 out=target/viewer
 mkdir -p "$out"
@@ -12,7 +11,7 @@ for program in test viewer; do
   linked "$out/$program" target/staticlib/libtangle.a -std=c11 -pedantic "host/viewer/$program.c"
 done
 
-"${emulator[@]}" "$out/test"
+"$out/test"
 
 # Case 2's parts.
 leaves='\0\4'
@@ -27,7 +26,7 @@ shows() {
   local letter=$1 expected=$2 status=$3 got=0
   shift 3
   printf 'TGP\0\1%s%b%b%b%b%b' "$letter" "$leaves" "$left" "$right" "$links" "$layouts" |
-    "${emulator[@]}" "$out/viewer" "$@" > "$out/$expected" || got=$?
+    "$out/viewer" "$@" > "$out/$expected" || got=$?
   diff "host/viewer/$expected" "$out/$expected" || { echo "viewer: $expected differs"; exit 1; }
   [ "$got" = "$status" ] || { echo "viewer: $expected ends with $got, not $status"; exit 1; }
 }
