@@ -1,4 +1,4 @@
-use Rattle.std.proofs.Common.{ap₂, get_or, subst, ◌+◌, ◌-◌, ◌∙◌, ◌≡◌}
+use Rattle.std.proofs.Common.{ap₂, get_or, subst, ◌+◌, ◌∙◌, ◌≡◌}
 use Rattle.calls_hands.specs.Refusals.{hand, hand_of, hand_refusal}
 use Rattle.calls_hands.proofs.HandLists.{Found, found_more, found_stop, found_end}
 use Rattle.calls_hands.proofs.handing.first_bad.Goals.{Else-k-ne0}

@@ -1,4 +1,4 @@
-use Rattle.std.proofs.Common.{[], ap₂, sym, ◌-◌, ◌∙◌, ◌∷◌}
+use Rattle.std.proofs.Common.{[], ap₂, sym, ◌∙◌, ◌∷◌}
 use Rattle.record_fields.specs.Meaning.{layouts_of, relaid}
 use Rattle.calls_hands.specs.Refusals.{hand, hand_of}
 use Rattle.calls_hands.specs.Calls.{handed}

@@ -1,5 +1,5 @@
 -- `is_hold` says whether a byte is one of the four letters.
-use Rattle.std.proofs.Common.{inl, inr, true, ℕ, ◌≡◌, ◌⊎◌, rules, arith}
+use Rattle.std.proofs.Common.{inl, inr, true, ℕ, ◌≡◌, ◌⊎◌, arith}
 use Rattle.std.proofs.lemmas.Grind.{common_steps}
 use Rattle.record_fields.specs.Refusals.{is_hold}
 use Rattle.record.proofs.heading.is_hold.Goals as goal

@@ -1,4 +1,4 @@
-use Rattle.std.proofs.Common.{ap, arith, refl, sym, take, ◌-◌, ◌∙◌, ◌≡◌}
+use Rattle.std.proofs.Common.{ap, arith, refl, sym, take, ◌∙◌, ◌≡◌}
 use Rattle.record_contents.specs.Marks.{marking_all}
 use Rattle.record_contents.proofs.Marks.{marking-last}
 use Rattle.work_trees.proofs.Stores.{take_more}

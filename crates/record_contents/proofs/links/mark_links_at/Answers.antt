@@ -1,4 +1,4 @@
-use Rattle.std.proofs.Common.{ap, arith, refl, sym, ◌-◌, ◌∙◌, ◌≡◌}
+use Rattle.std.proofs.Common.{ap, arith, refl, sym, ◌∙◌, ◌≡◌}
 use Rattle.tanglegram.specs.Lists.{range}
 use Rattle.record_fields.specs.Fields.{numbers}
 use Rattle.record_fields.proofs.Stores.{numbers_more}

@@ -1,4 +1,4 @@
-use Rattle.std.proofs.Common.{arith, ◌-◌, ◌∙◌}
+use Rattle.std.proofs.Common.{arith, ◌∙◌}
 use Rattle.work_tree_rule.proofs.Marks.{checked_none, checked_all, bad_here, checked_more}
 use Rattle.record_contents.proofs.RowsAt.{upper-at, lower-at}
 use Rattle.record_contents.proofs.testing.bad_row_at.Goals as goal

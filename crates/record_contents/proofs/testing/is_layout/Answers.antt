@@ -1,4 +1,4 @@
-use Rattle.std.proofs.Common.{arith, sym, take_all, ◌-◌}
+use Rattle.std.proofs.Common.{arith, sym, take_all}
 use Rattle.record_fields.proofs.Tests.{no_bytes, layout-more, layout_fails}
 use Rattle.record_contents.proofs.testing.is_layout.Goals as goal
 

@@ -1,4 +1,4 @@
-use Rattle.std.proofs.Common.{ap, arith, rules, take_all, ◌-◌, ◌∙◌}
+use Rattle.std.proofs.Common.{ap, arith, rules, take_all, ◌∙◌}
 use lib.Seq.{sets}
 use Rattle.record_fields.specs.Fields.{split}
 use Rattle.record_fields.proofs.Stores.{store_two}

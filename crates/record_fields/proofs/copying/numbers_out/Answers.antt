@@ -1,4 +1,4 @@
-use Rattle.std.proofs.Common.{arith, length-set, rules, ℕ, ◌*◌, ◌+◌, ◌-◌, ◌≡◌}
+use Rattle.std.proofs.Common.{arith, length-set, rules, ℕ, ◌*◌, ◌+◌, ◌≡◌}
 use Rattle.tanglegram.specs.Lists.{range}
 use Rattle.record_fields.specs.Fields.{two, numbers}
 use Rattle.record_fields.proofs.Stores.{store_made}

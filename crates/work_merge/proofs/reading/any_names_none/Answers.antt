@@ -1,4 +1,4 @@
-use Rattle.std.proofs.Common.{ap, arith, ◌-◌, ◌∙◌, ◌≡◌}
+use Rattle.std.proofs.Common.{ap, arith, ◌∙◌, ◌≡◌}
 use Rattle.merge.specs.Entries.{names_none}
 use Rattle.merge.specs.Tables.{upper_entry, lower_entry}
 use Rattle.work_merge.proofs.Signed.{read_at}

@@ -19,11 +19,13 @@ length_end-requires c =
     let text = text_in c.args.text.now in
     let b = c.byte_at-first.ensures in
     let f = digits_further text c.args.at (rw b at c.if-first-lt-ONE.false) (rw b at c.if-first-gt-NINE.false) _ _
-    c.digits_from-number.ensures in
-    (omega arith, record {
-      within = c.digits_from-number.ensures.ends.within;
-      in_memory = c.requires.0.in_memory;
-    })
+    c.digits_from-number.ensures in (
+      omega arith,
+      record {
+        within = c.digits_from-number.ensures.ends.within;
+        in_memory = c.requires.0.in_memory;
+      },
+    )
 
 pub returns : goal.returns
 returns c =
