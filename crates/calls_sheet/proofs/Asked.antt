@@ -1,19 +1,19 @@
 -- Lines by their number, of an accepted record: each is what its function puts.
 use Prim.Native.Nat.{ℕ}
-use mathlib.Core.Path.{◌≡◌, refl, sym, ap, ◌∙◌}
+use mathlib.Core.Path.{◌≡◌, refl, sym, ◌∙◌}
 use mathlib.Core.Logic.{◌≢◌}
-use mathlib.Core.Bool.{Bool, true, false, not}
+use mathlib.Core.Bool.{Bool, true, false}
 use mathlib.Core.List.{List, []}
 use native.Mathlib.Omega.{arith}
-use borrow.Author.Tests.{eq-eqb, ne_eqb}
+use borrow.Author.Tests.{ne_eqb}
 use Rattle.tanglegram.specs.Run.{left, right}
 use Rattle.record_fields.specs.Fields.{hold_of, most_turns}
 use Rattle.record_fields.specs.Refusals.{refusal}
 use Rattle.record_arrays.specs.Sides.{is_side, holds}
-use Rattle.calls_turns.specs.Refusals.{no_allowance, run_refusal}
+use Rattle.calls_turns.specs.Refusals.{no_allowance}
 use Rattle.calls_turns.proofs.Turns.{running_11_left, running_11_right, running_0}
 use Rattle.work_text.specs.Puts.{Puts}
-use Rattle.calls_sheet.specs.Sheet.{ThirdNumber, is_run, line_of_record}
+use Rattle.calls_sheet.specs.Sheet.{is_run, line_of_record}
 use Rattle.calls_sheet.specs.Shown.{SaysEntangled, SaysOf, neither_held}
 
 -- a run is made exactly if neither side is held

@@ -31,6 +31,11 @@ spaced-most (x ∷ xs) p = omega (arith, length-append (next x) (spaced xs), nex
 pub line-most : (first xs : List ℕ) → Each Of32 xs → length (line first xs) ≤ length first + 11 * length xs + 1
 line-most first xs p = omega (arith, line-length first xs, spaced-most xs p)
 
+-- the room for a line of one number
+pub line-room : (at room : ℕ) (first : List ℕ) (x : ℕ) → Of32 x → at + (length first + 12) ≤ room →
+    at + length (line first (x ∷ [])) ≤ room
+line-room at room first x h enough = omega (arith, line-most first (x ∷ []) (h, tt))
+
 -- ---- an order's line
 
 digits_of : ℕ → ℕ

@@ -8,7 +8,6 @@ use native.Mathlib.Omega.{arith}
 use borrow.Author.Tests.{eq-eqb, ne_eqb, eqb-true, eqb-false}
 use lib.Dec.{eqb}
 use lib.ListN.{length, drop, length-append}
-use lib.Seq.{sets}
 use Rattle.record_fields.specs.Fields.{hold_of, size_of, most_turns}
 use Rattle.record_fields.specs.Refusals.{refusal}
 use Rattle.record_fields.specs.Refused.{accepted}
@@ -71,7 +70,7 @@ not-run s k h =
     go true e = rw e refl
     go false e = refl
 
-module _ (s : List ℕ) (k : ℕ) {out out' : List ℕ} {r : ℕ} (long : length out ≡ 1942) where
+module _ (s : List ℕ) (k : ℕ) {out out' : List ℕ} {r : ℕ} (long : length out ≤ 1942) where
   says : {s' : List ℕ} (third : ℕ) → (k ≡ 5 → ThirdNumber s third) → Puts (line_text s third k) out 0 r out' → s' ≡ after_line s k →
       SaysLine s k out r out' s'
   says third t p e =

@@ -1,12 +1,12 @@
 -- What the calls that show a record answer of one that is accepted.
-use Prim.Native.Nat.{ℕ, ◌+◌, ◌-◌, ◌*◌, ◌/◌, ◌≤◌}
+use Prim.Native.Nat.{ℕ, ◌≤◌}
 use mathlib.Core.Path.{◌≡◌, refl, sym, ap, ◌∙◌}
-use mathlib.Core.Bool.{Bool, true, false, cond}
+use mathlib.Core.Bool.{Bool, true, false}
 use mathlib.Core.List.{List, ◌++◌}
 use native.Mathlib.Omega.{arith}
 use borrow.Author.Tests.{eqb-true}
 use lib.Dec.{eqb}
-use lib.ListN.{length, take, drop, length-append, length-drop}
+use lib.ListN.{length, take, drop, length-append}
 use lib.Seq.{take_at}
 use Rattle.tanglegram.specs.Entanglement.{worst}
 use Rattle.tanglegram.proofs.Lists.{all-length}
@@ -19,8 +19,6 @@ use Rattle.record_arrays.specs.Sides.{is_side, side_of}
 use Rattle.record_arrays.proofs.AsItStands.{side-perm, over_its_leaves}
 use Rattle.calls_show.specs.declared.answers.Counted.{Counted}
 use Rattle.calls_show.specs.declared.answers.SquaredEntanglement.{SquaredEntanglement}
-use Rattle.calls_show.specs.declared.answers.SquaredEntanglement.TheVariants.{Ratio, NoRatio}
-use Rattle.calls_show.specs.Refusals.{order_refusal}
 use Rattle.calls_show.specs.Calls.{Orders, Counts, SquaredEntangles, squared_entanglement, displaced_in, worst_in}
 use Rattle.calls_show.proofs.Outcomes.{ordering_0}
 use Rattle.calls_show.proofs.Shown.{displacement-at-most}

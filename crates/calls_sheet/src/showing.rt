@@ -57,6 +57,7 @@ fn side_after(s: &[u8], header: Header, side: u16, letter: u8, out: &mut [u8]) -
 }
 
 // Line k, which is not 6, of an accepted record with that heading; nothing where it has no such line.
+#[tactic(auto, using(crate::proofs::Asked::left_side, crate::proofs::Asked::right_side))]
 pub fn shown_line(s: &[u8], header: Header, k: usize, out: &mut [u8]) -> usize
     requires { HeadingOf s.now header.hold header.n × (k ≢ 6) × (1942 ≤ length out.old) }
     ensures { SaysOf s.now k out.old result out.new }

@@ -7,11 +7,10 @@ use mathlib.Core.List.{List, Permᴰ}
 use lib.ListN.{take}
 use Rattle.tanglegram.specs.Lists.{Each, range}
 use Rattle.tanglegram.specs.Tree.{Tree, leaves, rows}
-use Rattle.tanglegram.specs.Order.{order}
 use Rattle.tanglegram.specs.Crossings.{end, inverted, cost, seen_left, seen_right}
 use Rattle.tanglegram.specs.Freeing.{freed}
 use Rattle.tanglegram.specs.Run.{Side, left, right}
-use Rattle.tanglegram.specs.Table.{Table, Layouts, layout, put, linked, crossings, seen, free}
+use Rattle.tanglegram.specs.Table.{Table, Layouts, layout, put, crossings, seen, free}
 use Rattle.tanglegram.proofs.Lists.{each-perm}
 use Rattle.tanglegram.proofs.Tree.{leaves_once, rows_once}
 use Rattle.tanglegram.proofs.Freeing.{freed_cong, cost_cong}

@@ -1,4 +1,4 @@
-use Rattle.std.proofs.Common.{[], ap, ap₂, arith, drop, get_or-drop, length-drop, sym, take, ◌+◌, ◌-◌, ◌∙◌, ◌∷◌, ◌≡◌}
+use Rattle.std.proofs.Common.{[], ap, ap₂, arith, drop, get_or-drop, length-drop, sym, take, ◌+◌, ◌∙◌, ◌∷◌, ◌≡◌}
 use Rattle.tanglegram.specs.Crossings.{across}
 use Rattle.tanglegram.proofs.Sums.{across-nil}
 use Rattle.work_places.specs.Arrays.{falls}

@@ -1,4 +1,4 @@
-use Rattle.std.proofs.Common.{ap, ap₂, arith, length, refl, sym, ◌+◌, ◌-◌, ◌∙◌, ◌≡◌, ◌≤◌}
+use Rattle.std.proofs.Common.{ap, ap₂, arith, length, refl, sym, ◌+◌, ◌∙◌, ◌≡◌, ◌≤◌}
 use Rattle.tanglegram.specs.Crossings.{crosses, pairs}
 use Rattle.tanglegram.specs.Lists.{range}
 use Rattle.tanglegram.proofs.Lists.{length-range}

@@ -1,4 +1,4 @@
-use Rattle.std.proofs.Common.{arith, get_or, ◌+◌, ◌-◌, ◌≤◌}
+use Rattle.std.proofs.Common.{arith, get_or, ◌+◌, ◌≤◌}
 use Rattle.work_places.specs.Arrays.{Linked}
 use Rattle.work_crossings.proofs.Runs.{run_none, run-linked, run_more, run_small, run-all}
 use Rattle.work_crossings.proofs.counting.count_seen.Goals.{In-loop-i}

@@ -1,4 +1,4 @@
-use Rattle.std.proofs.Common.{[], ap, ap₂, arith, refl, suc, sym, ◌+◌, ◌-◌, ◌∙◌, ◌∷◌, ◌≡◌}
+use Rattle.std.proofs.Common.{[], ap, ap₂, arith, refl, suc, sym, ◌+◌, ◌∙◌, ◌∷◌, ◌≡◌}
 use Rattle.tanglegram.specs.Crossings.{across}
 use Rattle.tanglegram.specs.Lists.{range}
 use Rattle.work_places.specs.Arrays.{cross_at}

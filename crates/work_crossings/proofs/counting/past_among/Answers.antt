@@ -1,4 +1,4 @@
-use Rattle.std.proofs.Common.{[], ap, ap₂, arith, drop, get_or-drop, length-drop, refl, sym, take, ◌+◌, ◌-◌, ◌∙◌, ◌∷◌, ◌≡◌}
+use Rattle.std.proofs.Common.{[], ap, ap₂, arith, drop, get_or-drop, length-drop, refl, sym, take, ◌+◌, ◌∙◌, ◌∷◌, ◌≡◌}
 use Rattle.tanglegram.specs.Crossings.{across}
 use Rattle.work_places.specs.Arrays.{falls}
 use Rattle.work_crossings.proofs.Runs.{across-first}

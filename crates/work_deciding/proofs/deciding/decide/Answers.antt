@@ -1,5 +1,5 @@
 -- `decide` meets its contract: a row is turned over, its byte flipped and its entries exchanged, or kept.
-use Rattle.std.proofs.Common.{Bool, List, ℕ, ap, false, get_or, refl, sub-one, sym, true, ◌-◌, ◌∙◌, ◌≡◌}
+use Rattle.std.proofs.Common.{Bool, List, ℕ, ap, get_or, refl, sub-one, sym, ◌-◌, ◌∙◌, ◌≡◌}
 use Rattle.tanglegram.specs.Order.{byte}
 use Rattle.work_trees.proofs.RowArray.{upper-place, lower-place}
 use Rattle.work_deciding.specs.Row.{turns_over}

@@ -1,4 +1,4 @@
-use Rattle.std.proofs.Common.{arith, mul-le-mul, ℕ, ◌*◌, ◌-◌, ◌<◌, ◌^◌, ◌≤◌}
+use Rattle.std.proofs.Common.{arith, mul-le-mul, ℕ, ◌*◌, ◌<◌, ◌^◌, ◌≤◌}
 use Rattle.tanglegram.proofs.Thousandths.{from_next, within_1000}
 use Rattle.work_displacement.proofs.in_thousandths.thousandths.Goals.{In-loop-next}
 use Rattle.work_displacement.proofs.in_thousandths.thousandths.Goals as goal

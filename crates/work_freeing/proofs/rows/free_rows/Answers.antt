@@ -1,4 +1,4 @@
-use Rattle.std.proofs.Common.{List, ap, arith, get_or, length, map, pred, refl, take, ℕ, ◌*◌, ◌+◌, ◌-◌, ◌<◌, ◌∙◌, ◌≡◌, ◌≤◌}
+use Rattle.std.proofs.Common.{List, ap, arith, get_or, length, map, pred, refl, take, ℕ, ◌*◌, ◌+◌, ◌<◌, ◌∙◌, ◌≡◌, ◌≤◌}
 use Rattle.tanglegram.specs.Crossings.{inverted}
 use Rattle.tanglegram.specs.Lists.{place}
 use Rattle.tanglegram.specs.Tree.{leaves}
@@ -85,7 +85,7 @@ parts-here c e =
     let below : l.row < size T = omega arith in
     let first = c.wide-a.ensures ∙ ap (λ k. get_or l.rows k 0) (upper-place l.row inv.from) ∙ inv.kept-rows (2 * pred l.row) (omega arith) in
     let second = c.wide-b.ensures ∙ ap (λ k. get_or l.rows k 0) (lower-place l.row inv.from)
-        ∙ inv.kept-rows (2 * pred l.row + 1) (omega arith) in
+    ∙ inv.kept-rows (2 * pred l.row + 1) (omega arith) in
     let long = seen-long T g c.args.order.now order c.args.far.now seen c.entries_along.ensures in
     let shown = seen_first T g c.args.order.now order c.args.far.now seen c.entries_along.ensures in
     parts-told

@@ -1,4 +1,4 @@
-use Rattle.std.proofs.Common.{arith, refl, sym, true≢false, ◌-◌, ◌≡◌}
+use Rattle.std.proofs.Common.{arith, refl, sym, true≢false, ◌≡◌}
 use Rattle.work_matching.proofs.Prefix.{prefix_more, prefix_differs}
 use Rattle.work_matching.proofs.matching.agree.Goals as goal
 

@@ -1,4 +1,4 @@
-use Rattle.std.proofs.Common.{arith, refl, sym, ◌-◌, ◌∙◌}
+use Rattle.std.proofs.Common.{arith, refl, sym, ◌∙◌}
 use Rattle.work_matching.proofs.RowPins.{against_here, against_later, against_none}
 use Rattle.work_matching.proofs.pins.against_pins.Goals as goal
 

@@ -1,4 +1,4 @@
-use Rattle.std.proofs.Common.{arith, length-set, refl, sym, ◌-◌, ◌∙◌}
+use Rattle.std.proofs.Common.{arith, length-set, refl, sym, ◌∙◌}
 use Rattle.work_matching.proofs.RowPins.{pinned-next, pinned-all}
 use Rattle.work_matching.proofs.pins.pin_as.Goals as goal
 

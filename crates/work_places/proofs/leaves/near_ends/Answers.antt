@@ -1,4 +1,4 @@
-use Rattle.std.proofs.Common.{arith, ◌-◌}
+use Rattle.std.proofs.Common.{arith}
 use Rattle.work_places.specs.Arrays.{Leaf}
 use Rattle.work_places.proofs.Arrays.{one_leaf, written_none, written-more, written_all}
 use Rattle.work_places.proofs.leaves.near_ends.Goals.{After-wide-c}

@@ -1,4 +1,4 @@
-use Rattle.std.proofs.Common.{arith, refl, sym, true, ◌*◌, ◌+◌, ◌-◌, ◌/◌, ◌∙◌, ◌≡◌}
+use Rattle.std.proofs.Common.{arith, refl, sym, ◌*◌, ◌+◌, ◌/◌, ◌∙◌, ◌≡◌}
 use Rattle.work_seen_places.specs.Seen.{all_before}
 use Rattle.work_seen_places.proofs.FullWords.{before_next, before_last, before_less}
 use Rattle.work_seen_places.proofs.seen.all_before.Goals as goal

@@ -1,4 +1,4 @@
-use Rattle.std.proofs.Common.{ap, get_or, ◌-◌}
+use Rattle.std.proofs.Common.{ap, get_or}
 use Rattle.work_trees.proofs.RowArray.{upper-place, lower-place}
 use Rattle.work_tree_rule.proofs.Marks.{checked_none, checked_all, bad_here, checked_more}
 use Rattle.work_tree_rule.proofs.checking.bad_row.Goals as goal

@@ -1,5 +1,5 @@
 -- `note_places` meets its contract. The loop's invariant: each leaf has its first place among the entries from i on.
-use Rattle.std.proofs.Common.{◌-◌, ◌≤◌}
+use Rattle.std.proofs.Common.{◌≤◌}
 use Rattle.work_trees.proofs.Places.{PlacesNoted}
 use Rattle.work_trees.proofs.noting.note_places.Given as goal
 

@@ -1,4 +1,4 @@
-use Rattle.std.proofs.Common.{ap, arith, length, refl, suc, sym, ◌-◌, ◌∙◌, ◌≡◌}
+use Rattle.std.proofs.Common.{ap, arith, length, refl, suc, sym, ◌∙◌, ◌≡◌}
 use Rattle.work_trees.specs.Exchange.{exchanged_at, exchanged_to}
 use Rattle.work_trees.proofs.Exchanged.{exchanged_to-turned, exchanged_to-given, exchanged_to-all}
 use Rattle.work_trees.proofs.turning.exchange.Goals as goal
@@ -16,9 +16,9 @@ loop-i-preserved c =
     let r = c.is_turned.ensures in (
       omega arith,
       elim c.if-is_turned.branch [
-        then-is_turned w ↦
-          w.rows-is ∙ ap (λ R. exchanged_at R (suc l.i)) l.invariant.1
-          ∙ sym (exchanged_to-turned T y l.i (sym r ∙ w.if-is_turned.true))
+        | then-is_turned w ↦
+            w.rows-is ∙ ap (λ R. exchanged_at R (suc l.i)) l.invariant.1
+            ∙ sym (exchanged_to-turned T y l.i (sym r ∙ w.if-is_turned.true))
         | else-is_turned w ↦ w.rows-is ∙ l.invariant.1 ∙ sym (exchanged_to-given T y l.i (sym r ∙ w.if-is_turned.false))
       ],
     )

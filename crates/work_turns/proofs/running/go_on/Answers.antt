@@ -1,4 +1,4 @@
-use Rattle.std.proofs.Common.{arith, refl, ◌-◌, ◌<◌}
+use Rattle.std.proofs.Common.{arith, refl, ◌<◌}
 use Rattle.tanglegram.specs.Sides.{side_of}
 use Rattle.tanglegram.proofs.Sides.{side-most, other-side}
 use Rattle.tanglegram.proofs.Alternating.{turning_start, turning_gain, turning_stop, turning_end}
