@@ -38,7 +38,7 @@ if [ "${1:-}" != linked ]; then
   made sheet target/measure/made_sheet.o
   objcopy --redefine-sym main=sheet_main --redefine-sym read=sheet_read --redefine-sym write=sheet_write \
     target/measure/made_sheet.o target/measure/sheet.o
-  gcc "${strict[@]}" -static -o target/measure/sheet host/measure/sheet.c target/measure/sheet.o
+  gcc "${strict[@]}" -static -o target/measure/sheet host/measure/sheet.c target/measure/sheet.o "$kit/c/libos_c.a"
   read -r stack longest written < <(target/measure/sheet)
   shown 'sheet: stack, its record and its line included' "$stack" 0 0 target/measure/sheet.o
   exit
