@@ -27,7 +27,7 @@ below() {
 texts() {
   local folders
   mapfile -t folders < <(below "$1" | sed 's,^,crates/,')
-  { rt version && cat crates.txt && find "${folders[@]}" -name out -prune -o -type f -print0 | LC_ALL=C sort -z |
+  { rt version < /dev/null && cat crates.txt && find "${folders[@]}" -name out -prune -o -type f -print0 | LC_ALL=C sort -z |
     xargs -0 sha256sum; } | sha256sum
 }
 

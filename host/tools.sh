@@ -3,7 +3,7 @@
 set -euo pipefail
 cd "$(dirname "${BASH_SOURCE[0]}")/.."
 
-kit=$(dirname "$(rt doc)")
+kit=$(dirname "$(rt doc < /dev/null)") # standard input is the caller's, and may be closed
 toolchain=$kit/toolchain
 
 # needs COMMAND.. -- PACKAGE..: installs the packages where a command is missing.
