@@ -1,5 +1,5 @@
-# For the other scripts, and sourced by each of them first: the repository's root as the working directory, the kit and the
-# compilers. What is missing is installed. The kit, and so all of this, is for x86-64.
+# For the other scripts, and sourced by each of them first: the repository's root as the working directory, the kit and
+# the compilers. What is missing is installed. The kit, and so all of this, is for x86-64.
 set -euo pipefail
 cd "$(dirname "${BASH_SOURCE[0]}")/.."
 
