@@ -62,7 +62,8 @@ module _ (s : List ℕ) (a : refusal s ≡ 0) where
   none-displaced : size_of s ≡ 1 → shown_displacement s ≡ 0
   none-displaced e = let none : worst (size_of s) ≡ 0 = rw e refl in omega (arith, displacement-at-most s a)
 
-  pub squared-shown : (displaced_in (squared_entanglement s) ≡ shown_displacement s) × (worst_in (squared_entanglement s) ≡ worst (size_of s))
+  pub squared-shown : (displaced_in (squared_entanglement s) ≡ shown_displacement s)
+      × (worst_in (squared_entanglement s) ≡ worst (size_of s))
   unfolding squared_entanglement
   squared-shown = go (eqb (size_of s) 1) refl
     where

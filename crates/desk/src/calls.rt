@@ -62,6 +62,7 @@ pub fn named(name: &[u8]) -> Call
 }
 
 // How many words a line of a call has, its name among them.
+#[tactic(auto, unfolding(crate::specs::Calls::words_of))]
 pub fn words(call: Call) -> usize
     ensures { result ≡ words_of call }
 {
@@ -92,6 +93,7 @@ pub fn words(call: Call) -> usize
 
 // Which word of a line says the bytes that the call is lent: RECORD, TEXT, or pack's OUT; 0, its name, for merge_read,
 // which is lent none.
+#[tactic(auto, unfolding(crate::specs::Calls::lent_by))]
 pub fn lent(call: Call) -> usize
     ensures { result ≡ lent_by call }
 {

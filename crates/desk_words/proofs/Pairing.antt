@@ -119,7 +119,8 @@ twice-more : (i : ℕ) → 2 * (i + 1) ≡ suc (2 * i + 1)
 twice-more i = omega arith
 
 two_dropped : (word : List ℕ) (i : ℕ) → 2 * i + 1 < length word
-    → pairs_in (drop (2 * i) word) ≡ joined (byte_in (get_or word (2 * i) 0) (get_or word (2 * i + 1) 0)) (pairs_in (drop (2 * (i + 1)) word))
+    → pairs_in (drop (2 * i) word)
+    ≡ joined (byte_in (get_or word (2 * i) 0) (get_or word (2 * i + 1) 0)) (pairs_in (drop (2 * (i + 1)) word))
 unfolding pairs_in
 two_dropped word i h =
     let first : drop (2 * i) word ≡ get_or word (2 * i) 0 ∷ drop (2 * i + 1) word = rw add-one (drop-cons word (2 * i) 0 (omega arith)) in

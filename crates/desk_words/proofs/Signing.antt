@@ -90,7 +90,7 @@ pub bare_told : (word : List ℕ) (r : ℕ) → (get_or word 0 0 ≡ 45 → ⊥)
 bare_told word r d e = rw (no_dash word d, e) (pos-told (number_in largest word) (largest + 1))
 
 -- ---- in 64 bits
-module _ (n : ℕ) (h : n ≤ lowest) where
+module _ (n : ℕ) (h : n < 9223372036854775808) where
   pub opposite : pos 0 -ℤ to_z w64 n ≡ minus n
   opposite = ap (λ (z : ℤ). pos 0 -ℤ z) (to_z_pos w64 n (omega arith)) ∙ +ℤ_idl (minus n)
 

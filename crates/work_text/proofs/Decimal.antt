@@ -129,7 +129,8 @@ fewest-within (suc most) (suc (suc k)) x h f =
     let above : 10 ≤ x = omega (arith, pow-suc 10 k, one-le-pow k 10 (omega arith)) in
     let tenths : last_digits 10 (suc k) (x / 10) ≡ digits_within most (x / 10) =
     fewest-within most (suc k) (x / 10) (omega arith) (fewest_tenth k x f) in
-    ap (λ ds. ds ++ (hex_digit_ascii (x % 10) ∷ [])) tenths ∙ ap (λ d. digits_within most (x / 10) ++ (d ∷ [])) (digit_glyph (x % 10) (omega arith))
+    ap (λ ds. ds ++ (hex_digit_ascii (x % 10) ∷ [])) tenths
+    ∙ ap (λ d. digits_within most (x / 10) ++ (d ∷ [])) (digit_glyph (x % 10) (omega arith))
     ∙ sym (more-digits most x above)
 
 fewest-few : (k x : ℕ) → Written x → IsDigitCount 10 1 x (suc k) → k < 20

@@ -9,7 +9,8 @@ pub loop-j-preserved : goal.loop-j-preserved
 loop-j-preserved c =
     let line = c.args.line.now in
     let l = c.loop-j in
-    (omega arith, c.after-from.ensures.upper_bound, words_next line l.j l.from c.after-from.result c.after-from.ensures.line_value l.invariant.2)
+    let next = words_next line l.j l.from c.after-from.result c.after-from.ensures.line_value l.invariant.2 in
+    (omega arith, c.after-from.ensures.upper_bound, next)
 
 pub returns : goal.returns
 returns c =

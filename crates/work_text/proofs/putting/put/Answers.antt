@@ -11,5 +11,7 @@ returns c =
     record {
       ends = refl;
       within = c.requires;
-      writes = ap (put_mid at (at + length from - at) c.args.out.now) c.copy_from_slice.ensures.after ∙ copied_put from c.args.out.now at c.requires;
+      writes =
+          ap (put_mid at (at + length from - at) c.args.out.now) c.copy_from_slice.ensures.after
+          ∙ copied_put from c.args.out.now at c.requires;
     }
