@@ -1,8 +1,8 @@
 # For the scripts that link C with the calls: how an archive is made and how C is compiled.
 . "$(dirname "${BASH_SOURCE[0]}")/built.sh"
 
-# archive NAME: the archive of the calls that the crate NAME_c exports, target/staticlib/libNAME.a, and beside it the LLVM
-# module that it is compiled from, libNAME.a.bc.
+# archive NAME: the archive of the calls that the crate NAME_c exports, target/staticlib/libNAME.a, and beside it the
+# LLVM module that it is compiled from, libNAME.a.bc.
 archive() {
   made "$1_c" "target/staticlib/lib$1.a"
 }

@@ -27,8 +27,8 @@ below() {
 texts() {
   local folders
   mapfile -t folders < <(below "$1" | sed 's,^,crates/,')
-  { rt version && cat crates.txt && find "${folders[@]}" -name out -prune -o -type f -print0 | LC_ALL=C sort -z |
-    xargs -0 sha256sum; } | sha256sum
+  { rt version < /dev/null && cat crates.txt && find "${folders[@]}" -name out -prune -o -type f -print0 |
+    LC_ALL=C sort -z | xargs -0 sha256sum; } | sha256sum
 }
 
 # made_of SUM FILE: whether FILE is there and was made from the texts of that sum.
@@ -66,8 +66,8 @@ built() {
   echo "$sum" > "target/bin/$1.texts"
 }
 
-# keeping FILE: a toolchain of links to the kit's, FILE.tools, whose compiler keeps the LLVM module that it is handed, as
-# FILE.bc, and the words that it is called with, as FILE.words.
+# keeping FILE: a toolchain of links to the kit's, FILE.tools, whose compiler keeps the LLVM module that it is handed,
+# as FILE.bc, and the words that it is called with, as FILE.words.
 keeping() {
   local it tools=$1.tools
   rm -rf "$tools"
@@ -82,8 +82,8 @@ END
   chmod +x "$tools/bin/clang"
 }
 
-# compiled FOLDER CRATE FILE LIBRARY..: proves the crate in FOLDER over these libraries, which are built, and compiles it by
-# LLVM as FILE: a program's object, as rt does, or a static library's archive, for any x86-64 processor.
+# compiled FOLDER CRATE FILE LIBRARY..: proves the crate in FOLDER over these libraries, which are built, and compiles it
+# by LLVM as FILE: a program's object, as rt does, or a static library's archive, for any x86-64 processor.
 compiled() {
   local folder=$1 crate=$2 file=$PWD/$3 it words
   shift 3

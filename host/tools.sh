@@ -1,9 +1,9 @@
-# For the other scripts, and sourced by each of them first: the repository's root as the working directory, the kit and the
-# compilers. What is missing is installed. The kit, and so all of this, is for x86-64.
+# For the other scripts, and sourced by each of them first: the repository's root as the working directory, the kit and
+# the compilers. What is missing is installed. The kit, and so all of this, is for x86-64.
 set -euo pipefail
 cd "$(dirname "${BASH_SOURCE[0]}")/.."
 
-kit=$(dirname "$(rt doc)")
+kit=$(dirname "$(rt doc < /dev/null)") # standard input is the caller's, and may be closed
 toolchain=$kit/toolchain
 
 # needs COMMAND.. -- PACKAGE..: installs the packages where a command is missing.

@@ -1,9 +1,9 @@
 #!/usr/bin/env bash
-# sheet.sh [linked]: the program sheet beside the 64 KiB: the peak stack of the whole program over 512 leaves, its memory
-# for the record (6,143 bytes) and for a line (1,942) included, and its code and constants, as the kit compiles it. With
-# `linked`, the call for a line beside all calls for C, in a copy of `tangle_c` which exports it too. Both print what it
-# comes to, and what a text put together as a whole, 7,832 bytes, would come to. Ends with 1 if it takes more than 65,536
-# bytes, or if a line or a sheet is longer than is proved. C's functions that the code calls are outside.
+# sheet.sh [linked]: the program sheet beside the 64 KiB: the peak stack of the whole program over 512 leaves, its
+# memory for the record (6,143 bytes) and for a line (1,942) included, and its code and constants, as the kit compiles
+# it. With `linked`, the call for a line beside all calls for C, in a copy of `tangle_c` that exports it too. Both print
+# what it comes to, and what a text put together as a whole, 7,832 bytes, would come to. Ends with 1 if it takes more
+# than 65,536 bytes, or if a line or a sheet is longer than is proved. C's functions that the code calls are outside.
 . "$(dirname "$0")/../archive.sh"
 compiler
 limit=65536 record=6142 line=1942 whole=7832
@@ -38,7 +38,7 @@ if [ "${1:-}" != linked ]; then
   made sheet target/measure/made_sheet.o
   objcopy --redefine-sym main=sheet_main --redefine-sym read=sheet_read --redefine-sym write=sheet_write \
     target/measure/made_sheet.o target/measure/sheet.o
-  gcc "${strict[@]}" -static -o target/measure/sheet host/measure/sheet.c target/measure/sheet.o
+  gcc "${strict[@]}" -static -o target/measure/sheet host/measure/sheet.c target/measure/sheet.o "$kit/c/libos_c.a"
   read -r stack longest written < <(target/measure/sheet)
   shown 'sheet: stack, its record and its line included' "$stack" 0 0 target/measure/sheet.o
   exit

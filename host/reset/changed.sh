@@ -14,9 +14,8 @@ module=target/staticlib/libtangle.a.bc
 [ "${1:-}" = made ] || archive tangle
 module_text "$module" "$out/unchanged.ll"
 
-# The other side's first layout byte turned over and back. A record is lent as a pointer to its pointer and its length.
-turn_and_back='define internal void @turn_and_back(ptr %lent, i16 %n, i16 %side) noinline {
-  %s = load ptr, ptr %lent
+# The other side's first layout byte turned over and back. A record is lent as a pointer, %a0, and its length, %a1.
+turn_and_back='define internal void @turn_and_back(ptr %s, i16 %n, i16 %side) noinline {
   %at = call i64 @"record_arrays::places::layout_at"(i16 %n, i16 %side)
   %p = getelementptr i8, ptr %s, i64 %at
   %x = load volatile i8, ptr %p
@@ -55,10 +54,10 @@ changed record_fields::copying::bytes_in '^  store i8 ' '  store volatile i8 7, 
   changed record::hold::set_hold '^  store i8 ' '  store volatile i8 0, ptr POINTER, align 1' > "$out/through.ll"
 {
   changed record_arrays::putting_back::put_back '^  ret void' \
-    $'  call void @turn_and_back(ptr %a0, i16 %a1, i16 1)\n  call void @turn_and_back(ptr %a0, i16 %a1, i16 2)' \
+    $'  call void @turn_and_back(ptr %a0, i16 %a2, i16 1)\n  call void @turn_and_back(ptr %a0, i16 %a2, i16 2)' \
     < "$out/unchanged.ll" |
     changed record_arrays::rows::put_row_byte '^  ret void' \
-      $'  %other = sub i16 3, %a2\n  call void @turn_and_back(ptr %a0, i16 %a1, i16 %other)'
+      $'  %other = sub i16 3, %a3\n  call void @turn_and_back(ptr %a0, i16 %a2, i16 %other)'
   echo "$turn_and_back"
 } > "$out/back.ll"
 

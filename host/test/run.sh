@@ -1,8 +1,9 @@
 #!/usr/bin/env bash
-# All host tests; what they need of rt is proved first where .ci/run has not. Two groups go on at a time: the peer's own tests, then desk and sheet
-# beside the peer, and the sheet's stack and code; and the C boundary, then the stack, code and data of the calls, then a
-# reset at any instant. What they print stays in this order. Then speed, by itself. Ends with 1 if one of them fails, and
-# prints a group that failed last. What is missing is installed before the groups, since only one can install at a time.
+# All host tests; what they need is proved first where .ci/run has not just done so. Two groups go on at a time: the
+# peer's own tests, then desk and sheet beside the peer, and the sheet's stack and code; and the C boundary, then the
+# stack, code and data of the calls, then a reset at any instant. What they print stays in this order. Then speed, by
+# itself. Ends with 1 if one of them fails, and prints a group that failed last. What is missing is installed before the
+# groups, since only one can install at a time.
 . "$(dirname "$0")/../tools.sh"
 compiler
 needs cargo -- cargo

@@ -1,5 +1,5 @@
-/* The comparison table's calls for C: all twenty (crates/tangle, target/staticlib/libtangle.a, which `rt staticlib
- * tangle` writes).
+/* The comparison table's calls for C: all twenty (crates/tangle_c, target/staticlib/libtangle.a, which
+ * host/staticlib.sh makes).
  *
  * Memory is lent for the length of a call, as a pointer and how many bytes, places or entries are there; any bytes and
  * any numbers may stand in it. The caller sees to this only: each pointer is to memory of that length, not null even

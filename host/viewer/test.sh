@@ -1,6 +1,6 @@
 #!/usr/bin/env bash
-# The calls for C: builds the archive of crates/tangle_c, compiles test.c and viewer.c against it, runs both. Ends with 0
-# and one line that says so only if every check passed.
+# The calls for C: builds the archive of crates/tangle_c, compiles test.c and viewer.c against it, runs both. Ends with
+# 0 and one line that says so only if every check passed.
 . "$(dirname "$0")/../archive.sh"
 compiler
 
