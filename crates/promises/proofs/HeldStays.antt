@@ -15,7 +15,6 @@ use Rattle.tanglegram.specs.Table.{Fair, Fits}
 use Rattle.tanglegram.proofs.Table.{free_fits, free-small, frees, table-run}
 use Rattle.record_fields.specs.Fields.{hold_of, size_of, left_layout_at}
 use Rattle.record_fields.specs.Refusals.{is_layout, refusal}
-use Rattle.record_fields.specs.Refused.{accepted}
 use Rattle.record_fields.specs.Meaning.{table_of, layouts_of, relaid}
 use Rattle.record_fields.proofs.Acceptance.{accepted-sized, accepted-parts}
 use Rattle.record_fields.proofs.Meaning.{accepted_fair, accepted_fits, fits_long, length-relaid, layouts-of-relaid, hold-relaid}

@@ -1,8 +1,5 @@
 -- The sheet's promise is kept.
-use Prim.Native.Nat.{ℕ}
-use mathlib.Core.Path.{◌≡◌, sym, ◌∙◌, subst}
-use mathlib.Core.List.{List}
-use lib.ListN.{length}
+use mathlib.Core.Path.{sym, ◌∙◌}
 use Rattle.work_text.proofs.Decimal.{zero_alone, no_zero_first, each_digit}
 use Rattle.record_fields.specs.Fields.{most_turns}
 use Rattle.promises.specs.HeldStays.{Keeps}

@@ -1,16 +1,16 @@
 -- Input longer than any record has the sheet of its first 6,143 bytes: both are refused, for the same number, by the first eight bytes or
 -- for the length.
-use Prim.Native.Nat.{ℕ, ◌+◌, ◌≤◌, ◌<◌}
-use mathlib.Core.Path.{◌≡◌, refl, sym, ap, ap₂, ◌∙◌}
+use Prim.Native.Nat.{ℕ, ◌≤◌, ◌<◌}
+use mathlib.Core.Path.{◌≡◌, refl, sym, ap, ◌∙◌}
 use mathlib.Core.Logic.{◌≢◌}
 use mathlib.Core.Bool.{Bool, true, false}
 use mathlib.Core.List.{List}
 use native.Mathlib.Omega.{arith}
 use borrow.Author.Tests.{ne_eqb, le-ltb}
-use lib.Dec.{eqb, ltb}
+use lib.Dec.{eqb}
 use lib.ListN.{length, get_or, take}
 use lib.Seq.{length-take-le, get_or-take}
-use Rattle.record_fields.specs.Fields.{two, length_of, size_of, parts}
+use Rattle.record_fields.specs.Fields.{length_of, size_of}
 use Rattle.record_fields.specs.Refusals.{is_mark, no_size, heading_refusal, refusal}
 use Rattle.record_fields.specs.Refused.{refused}
 use Rattle.record_fields.specs.Told.{row_for, told_of}

@@ -1,5 +1,4 @@
 -- Wrong sheets that the promise excludes: each was tried. Of example 2's record, and of it with the left held.
-use Rattle.std.specs.Prelude.{List}
 use Rattle.tanglegram.specs.Examples.{case2}
 use Rattle.work_text.specs.Lines.{ascii}
 use Rattle.calls_sheet.specs.Sheet.{Sheet}

@@ -4,7 +4,6 @@ use Rattle.std.proofs.Common.{ap, arith, eq-eqb, length-take-le, ne_eqb, refl, s
 use Rattle.tanglegram.specs.Run.{left, right, other}
 use Rattle.tanglegram.proofs.Sides.{side-most, other-side}
 use Rattle.record_fields.specs.Fields.{parts}
-use Rattle.work_places.specs.Arrays.{OneToN}
 use Rattle.record_arrays.specs.Shown.{shown_order}
 use Rattle.record_arrays.specs.Sides.{side_of}
 use Rattle.record_arrays.proofs.Apart.{order-taken, order_one, links-taken, links_one}

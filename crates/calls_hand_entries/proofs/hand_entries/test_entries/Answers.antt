@@ -1,4 +1,3 @@
-use Rattle.std.proofs.Common.{sym, ◌∙◌}
 use Rattle.record_arrays.proofs.AsItStands.{over_its_leaves}
 use Rattle.calls_hands.proofs.HandLists.{found_start, found_more, found_end, first-accepted, first-number, second_number}
 use Rattle.calls_hand_entries.specs.Entries.{hand_in}
