@@ -82,8 +82,8 @@ END
   chmod +x "$tools/bin/clang"
 }
 
-# compiled FOLDER CRATE FILE LIBRARY..: proves the crate in FOLDER over these libraries, which are built, and compiles it
-# by LLVM as FILE: a program's object, as rt does, or a static library's archive, for any x86-64 processor.
+# compiled FOLDER CRATE FILE LIBRARY..: proves the crate in FOLDER over these libraries, which are built, and compiles
+# it by LLVM as FILE: a program's object, as rt does, or a static library's archive, for any x86-64 processor.
 compiled() {
   local folder=$1 crate=$2 file=$PWD/$3 it words
   shift 3
