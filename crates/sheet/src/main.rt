@@ -21,16 +21,22 @@ fn print(stdout: Stdout, s: &mut [u8]) -> io::Result<()> {
     Ok(())
 }
 
-// One byte more than the longest record has, so that longer input is refused for its length.
-fn main(rt: HostRuntime) -> io::Result<()> {
+// Tells on standard error what could not be done. Where that can't be written either, nobody is told.
+fn tell(rt: HostRuntime, line: &[u8]) {
+    let _told = rt.stderr().write_all(line).is_ok();
+}
+
+// One byte more than the longest record has, so that longer input is refused for its length. No error is returned, since
+// the code that shows one takes more than the rest of the program (host/measure/sheet.sh).
+fn main(rt: HostRuntime) {
     let mut bytes = [0u8; 6143];
     let read = input::read_whole(&mut rt.stdin(), &mut bytes);
     if !read.whole {
-        return eprintln!(rt; "sheet: standard input can't be read");
+        tell(rt, b"sheet: standard input can't be read\n");
+        return;
     }
     let n = read.bytes;
     if print(rt.stdout(), &mut bytes[..n]).is_err() {
-        return eprintln!(rt; "sheet: standard output can't be written");
+        tell(rt, b"sheet: standard output can't be written\n");
     }
-    Ok(())
 }
