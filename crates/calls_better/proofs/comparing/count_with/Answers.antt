@@ -47,12 +47,12 @@ returns-then-side-eq1 c =
     let r = c.requires.record_over in
     let most = r.sized.most in
     let links : take c.args.n c.fill_links.new.links ≡ (parts c.args.s.now).links =
-        links-taken _ _ r _ _ (omega arith) _ c.links_at.ensures c.fill_links.ensures in
+    links-taken _ _ r _ _ (omega arith) _ c.links_at.ensures c.fill_links.ensures in
     let within = order-within _ _ r (side_of c.args.side) _ c.requires.side_value.1 in
     let order : take c.args.n c.copied.new.out ≡ take c.args.n c.args.xs.now =
-        copy_taken _ _ r (side_of c.args.side) _ _ _ refl within c.copied.ensures in
+    copy_taken _ _ r (side_of c.args.side) _ _ _ refl within c.copied.ensures in
     let across : take c.args.n c.side_order.new.out ≡ shown_order c.args.s.now (side_of (3 - c.args.side)) =
-        order-taken _ _ r (side_of (3 - c.args.side)) _ _ c.side_order.ensures in
+    order-taken _ _ r (side_of (3 - c.args.side)) _ _ c.side_order.ensures in
     let here : side_of c.args.side ≡ left = rw (eq-eqb _ _ c.if-side-eq1.true) refl in
     let far = (other-side _ c.requires.side_value.0).1 ∙ ap other here in
     c.crossings_seen.ensures
@@ -74,12 +74,12 @@ returns c =
     let r = c.requires.record_over in
     let most = r.sized.most in
     let links : take c.args.n c.fill_links.new.links ≡ (parts c.args.s.now).links =
-        links-taken _ _ r _ _ (omega arith) _ c.links_at.ensures c.fill_links.ensures in
+    links-taken _ _ r _ _ (omega arith) _ c.links_at.ensures c.fill_links.ensures in
     let within = order-within _ _ r (side_of c.args.side) _ c.requires.side_value.1 in
     let order : take c.args.n c.copied.new.out ≡ take c.args.n c.args.xs.now =
-        copy_taken _ _ r (side_of c.args.side) _ _ _ refl within c.copied.ensures in
+    copy_taken _ _ r (side_of c.args.side) _ _ _ refl within c.copied.ensures in
     let across : take c.args.n c.side_order.new.out ≡ shown_order c.args.s.now (side_of (3 - c.args.side)) =
-        order-taken _ _ r (side_of (3 - c.args.side)) _ _ c.side_order.ensures in
+    order-taken _ _ r (side_of (3 - c.args.side)) _ _ c.side_order.ensures in
     let here : side_of c.args.side ≡ right = rw (ne_eqb _ _ c.if-side-eq1.false) refl in
     let far = (other-side _ c.requires.side_value.0).1 ∙ ap other here in
     c.crossings_seen-2.ensures
