@@ -42,10 +42,12 @@ count_with-b-requires c = let h = at-start (goal.at.count_with-b-requires c).Aft
 
 pub returns-then-b-a : goal.returns-then-b-a
 returns-then-b-a c =
-    compare_second _ _ _ _ (none (goal.at.returns-then-b-a c).After-size_of-n) c.size_of-n.ensures c.count_with-a.ensures c.count_with-b.ensures c.refused.ensures
+    compare_second _ _ _ _ (none (goal.at.returns-then-b-a c).After-size_of-n) c.size_of-n.ensures
+    c.count_with-a.ensures c.count_with-b.ensures c.refused.ensures
     c.if-b-a.true
 
 pub returns : goal.returns
 returns c =
-    compare-first _ _ _ _ (none (goal.at.returns c).After-size_of-n) c.size_of-n.ensures c.count_with-a.ensures c.count_with-b.ensures c.refused-2.ensures
+    compare-first _ _ _ _ (none (goal.at.returns c).After-size_of-n) c.size_of-n.ensures c.count_with-a.ensures
+    c.count_with-b.ensures c.refused-2.ensures
     c.if-b-a.false

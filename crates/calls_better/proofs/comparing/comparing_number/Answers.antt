@@ -34,7 +34,8 @@ is_order-requires c = over_n _ (accepted (goal.at.is_order-requires c).Else-k-ne
 
 pub returns-then-not-is_order : goal.returns-then-not-is_order
 returns-then-not-is_order c =
-    comparing_first _ _ _ _ (sided (goal.at.returns-then-not-is_order c).Else-not-is_side) (accepted (goal.at.returns-then-not-is_order c).Else-k-ne0) c.size_of-n.ensures
+    comparing_first _ _ _ _ (sided (goal.at.returns-then-not-is_order c).Else-not-is_side)
+    (accepted (goal.at.returns-then-not-is_order c).Else-k-ne0) c.size_of-n.ensures
     (sym c.is_order.ensures ∙ c.if-not-is_order.true)
 
 pub is_order-requires-2 : goal.is_order-requires-2
@@ -42,10 +43,13 @@ is_order-requires-2 c = over_n _ (accepted (goal.at.is_order-requires-2 c).Else-
 
 pub returns-then-not-is_order-2 : goal.returns-then-not-is_order-2
 returns-then-not-is_order-2 c =
-    comparing_second _ _ _ _ (sided (goal.at.returns-then-not-is_order-2 c).Else-not-is_side) (accepted (goal.at.returns-then-not-is_order-2 c).Else-k-ne0) c.size_of-n.ensures
-    (proposes-first (goal.at.returns-then-not-is_order-2 c).Else-not-is_order) (sym c.is_order-2.ensures ∙ c.if-not-is_order-2.true)
+    comparing_second _ _ _ _ (sided (goal.at.returns-then-not-is_order-2 c).Else-not-is_side)
+    (accepted (goal.at.returns-then-not-is_order-2 c).Else-k-ne0) c.size_of-n.ensures
+    (proposes-first (goal.at.returns-then-not-is_order-2 c).Else-not-is_order)
+    (sym c.is_order-2.ensures ∙ c.if-not-is_order-2.true)
 
 pub returns : goal.returns
 returns c =
-    comparing_0 _ _ _ _ (sided (goal.at.returns c).Else-not-is_side) (accepted (goal.at.returns c).Else-k-ne0) c.size_of-n.ensures
+    comparing_0 _ _ _ _ (sided (goal.at.returns c).Else-not-is_side) (accepted (goal.at.returns c).Else-k-ne0)
+    c.size_of-n.ensures
     (proposes-first (goal.at.returns c).Else-not-is_order) (sym c.is_order-2.ensures ∙ c.if-not-is_order-2.false)
