@@ -11,8 +11,8 @@
 
 enum { BATCHES = 9, BATCH = 50000000 };
 
-/* The answer of a run is too large for registers: x86-64's convention hands its place over as a first argument. It is
- * written so here, since the same module compiled for Arm keeps that argument. */
+/* The answer of a run is too large for registers: x86-64's convention hands its place over as a first argument, and it
+ * is written so here. */
 struct tangle_run *run_into(struct tangle_run *answer, uint8_t *record, size_t length, uint32_t allowance)
     __asm__("tangle_run");
 

@@ -1,5 +1,5 @@
 /* The two calls whose answers are too large for registers. x86-64's convention hands the answer's place over as a first
- * argument, and the same module compiled for Arm keeps that argument; declared so, both are called alike. */
+ * argument. */
 #ifndef INTO_H
 #define INTO_H
 
