@@ -1,5 +1,5 @@
 // Hand lists as lent slices of entries, each a side and a row: a thin walk that tests them and a thin walk that turns
-// the rows over, each calling a function on plain numbers. Their proofs go by hand.
+// the rows over, each calling a function on plain numbers.
 ghost use Rattle.std.specs.Prelude.{[], ◌∷◌, map, ◌≡◌, ◌<◌, ◌≤◌};
 ghost use Rattle.record_fields.specs.Fields.{size_of};
 ghost use Rattle.record_fields.specs.Meaning.{layouts_of, relaid};

@@ -63,8 +63,7 @@ pub extern "C" fn tangle_run(s: &mut [u8], allowance: u32) -> TangleRun
     }
 }
 
-// Turns the rows of a hand list over in any bytes, entry after entry; or the refusal, and no byte. Its proof goes by
-// hand.
+// Turns the rows of a hand list over in any bytes, entry after entry; or the refusal, and no byte.
 #[unsafe(no_mangle)]
 pub extern "C" fn tangle_hands(s: &mut [u8], list: &[HandEntry]) -> TangleRefusal
     ensures { HandsForC s.old (map hand_in list.now) result s.new }
