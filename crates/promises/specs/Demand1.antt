@@ -1,5 +1,5 @@
--- Demand 1: "Every call takes any record, list or number, and either answers or refuses exactly as document 01 fixes. A refused call
--- changes no lent byte. A held side is never moved." What is fixed of a call, for every input, is that call's statement (`Orders`,
+-- Demand 1: "Every call takes any record, list or number, and either answers or refuses as document 01 fixes. A refused call changes no
+-- lent byte. A held side is never moved." What is fixed of a call, for every input, is that call's statement (`Orders`,
 -- `Frees`, .., in its crate's `specs/Calls`), which the code is proved to meet. ("Document 01" is the customer's; what it fixes is, in
 -- words, docs/CALLS.md and docs/RECORD.md.)
 use Rattle.promises.specs.Outcomes.{Outcomes}
@@ -12,7 +12,7 @@ use Rattle.promises.specs.SetHoldOnly.{SetHoldPromise}
 use Rattle.promises.specs.PinOnly.{PinPromise}
 
 pub record Demand1 : Type 0 where
-  -- "Every call .. either answers or refuses exactly as .. fixes": each statement has one outcome, for every input.
+  -- "Every call .. either answers or refuses as .. fixes": each statement has one outcome, for every input.
   pub one_outcome : Outcomes
   -- And the tests in them say what their words mean.
   pub tests_mean : Tests

@@ -1,6 +1,6 @@
--- Demand 2: "Orders and crossings are those of the published definition. With one side standing, the freed side gets the fewest
--- crossings that any choice of its turnings could give, and a branching is turned only if that makes its own crossings fewer. Parts
--- packed are read out the same; a record read and packed gives the same bytes." For every input that the call does not refuse.
+-- Demand 2: "Orders and crossings are those of the published tanglegram definition. With one side standing, the freed side gets the
+-- fewest crossings that any choice of its turnings could give, and a branching is turned only if that makes its own crossings fewer.
+-- Parts packed into a record are read out the same, and a record read and packed gives the same bytes." For every input that the call does not refuse.
 use Rattle.std.specs.Prelude.{ℕ, ◌<◌, ◌≡◌, true, ◌↔◌, ◌⊎◌, List, take}
 use Rattle.tanglegram.specs.Tree.{EachRow}
 use Rattle.tanglegram.specs.Order.{order, Compatible, byte, flip, turn_row, may_change}
@@ -37,7 +37,7 @@ pub record FreeKeeps (s : List ℕ) (side : Side) (s' : List ℕ) : Type 0 where
   pub other_stands : layout (layouts_of s') (other side) ≡ layout (layouts_of s) (other side)
 
 pub record Demand2 : Type 0 where
-  -- "Orders .. are those of the published definition": the one that the side's layout gives, and compatible with its tree.
+  -- "Orders .. are those of the published tanglegram definition": the one that the side's layout gives, and compatible with its tree.
   pub order_given : (s : List ℕ) (side : ℕ) (out : List ℕ) (answer : Refusal) (out' : List ℕ) →
       Orders s side out answer out' → answer.number ≡ 0 →
       (take (size_of s) out' ≡ order (layout (layouts_of s) (side_of side)) ((table_of s).tree (side_of side))) ×
@@ -51,5 +51,5 @@ pub record Demand2 : Type 0 where
   -- What freeing does.
   pub freed_keeps : (s : List ℕ) (side : ℕ) (answer : Freed) (s' : List ℕ) → Frees s side answer s' → answer.refusal.number ≡ 0 →
       FreeKeeps s (side_of side) s'
-  -- "Parts packed are read out the same; a record read and packed gives the same bytes."
+  -- "Parts packed into a record are read out the same, and a record read and packed gives the same bytes."
   pub round_trip : RoundTrip

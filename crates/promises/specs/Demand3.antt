@@ -1,6 +1,6 @@
--- Demand 3: "From an accepted record with neither side held and an allowance from 1 to 130,818, turns alternate, left first. No
--- turn raises the count. Turns taken are at most the first count less the last, plus two. An allowance of the first count plus
--- two always ends settled, and settled means that no choice on either side alone, the other standing, crosses less."
+-- Demand 3: "Take an accepted record with neither side held and an allowance from 1 to 130,818. Turns alternate, left first, each by
+-- demand 2. No turn raises the count. The turns taken are at most the first count less the last, plus two. An allowance of the first
+-- count plus two always ends settled, and settled means that no choice on either side alone, the other standing, crosses less."
 use Rattle.std.specs.Prelude.{ℕ, zero, suc, pred, ◌+◌, ◌≤◌, ◌<◌, ◌≡◌, List}
 use Rattle.tanglegram.specs.Run.{Side, left, other, after}
 use Rattle.tanglegram.specs.Table.{Layouts, crossings, free, Least}
