@@ -4,7 +4,7 @@ use mathlib.Core.Path.{◌≡◌, sym, ap}
 use mathlib.Core.List.{List}
 use lib.ListN.{take}
 use Rattle.tanglegram.specs.Crossings.{count}
-use Rattle.tanglegram.specs.Run.{left, right}
+use Rattle.tanglegram.specs.declared.side.Side.TheVariants.{Left as left, Right as right}
 use Rattle.record_fields.specs.Fields.{parts}
 use Rattle.record_arrays.specs.Shown.{shown_order}
 use Rattle.record_arrays.specs.Sides.{RecordOver}

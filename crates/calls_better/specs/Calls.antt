@@ -1,7 +1,8 @@
 -- What better of two, as a part and in numbers, and its check call answer, for every input.
 use Rattle.std.specs.Prelude.{ℕ, ◌≡◌, Bool, cond, List, [], leb, eqb, take}
 use Rattle.tanglegram.specs.Crossings.{count}
-use Rattle.tanglegram.specs.Run.{Side, left, right}
+use Rattle.tanglegram.specs.declared.side.Side.{Side}
+use Rattle.tanglegram.specs.declared.side.Side.TheVariants.{Left as left, Right as right}
 use Rattle.record_fields.specs.declared.refusal.Refusal.{Refusal}
 use Rattle.record_fields.specs.Fields.{size_of, parts}
 use Rattle.record_fields.specs.Refused.{accepted, or_zero}

@@ -9,7 +9,8 @@ use lib.Dec.{ltb}
 use lib.ListN.{length, get_or, set}
 use lib.Seq.{get_or-set_same, get_or-set_other, set-get_or, set_out, set-set}
 use Rattle.tanglegram.specs.Order.{flip, byte, turn_row, may_change}
-use Rattle.tanglegram.specs.Run.{Side, left, right}
+use Rattle.tanglegram.specs.declared.side.Side.{Side}
+use Rattle.tanglegram.specs.declared.side.Side.TheVariants.{Left as left, Right as right}
 use Rattle.tanglegram.specs.Table.{Layouts, layout, put}
 use Rattle.tanglegram.proofs.Bytes.{flip_twice}
 use Rattle.record_fields.specs.Fields.{hold_of}

@@ -10,7 +10,8 @@ use lib.Dec.{ltb}
 use lib.IntN.{ℤ, pos}
 use lib.ListN.{length, get_or, length-map}
 use lib.Seq.{sets}
-use Rattle.tanglegram.specs.Run.{Side, left, right}
+use Rattle.tanglegram.specs.declared.side.Side.{Side}
+use Rattle.tanglegram.specs.declared.side.Side.TheVariants.{Left as left, Right as right}
 use Rattle.tanglegram.specs.Tree.{Rule}
 use Rattle.work_trees.specs.Rows.{upper, lower}
 use Rattle.merge.specs.Entries.{entry_for}

@@ -4,7 +4,7 @@ use Prim.Native.Char.{code}
 use Rattle.std.specs.Prelude.{ℕ, ◌≡◌, Bool, cond, List, [], ◌++◌, eqb}
 use Rattle.std.proofs.Math.Option.{get_or}
 use Rattle.tanglegram.specs.Entanglement.{worst}
-use Rattle.tanglegram.specs.Run.{left, right}
+use Rattle.tanglegram.specs.declared.side.Side.TheVariants.{Left as left, Right as right}
 use Rattle.tanglegram.specs.Table.{crossings}
 use Rattle.record_fields.specs.Fields.{hold_of, size_of, most_turns}
 use Rattle.record_fields.specs.Meaning.{table_of, relaid}

@@ -1,7 +1,7 @@
 -- What the functions below a line of a sheet do, of an accepted record.
 use Rattle.std.specs.Prelude.{ℕ, ◌≡◌, Bool, false, not, cond, List}
 use Rattle.tanglegram.specs.Entanglement.{worst}
-use Rattle.tanglegram.specs.Run.{left, right}
+use Rattle.tanglegram.specs.declared.side.Side.TheVariants.{Left as left, Right as right}
 use Rattle.record_fields.specs.Fields.{hold_of, size_of}
 use Rattle.record_fields.specs.Refusals.{refusal}
 use Rattle.record_arrays.specs.Shown.{shown_displacement}

@@ -10,7 +10,7 @@ use lib.Dec.{eqb, ltb}
 use lib.ListN.{length, take, drop}
 use lib.Seq.{sets}
 use Rattle.tanglegram.specs.Entanglement.{displacement, worst, Thousandths}
-use Rattle.tanglegram.specs.Run.{left, right}
+use Rattle.tanglegram.specs.declared.side.Side.TheVariants.{Left as left, Right as right}
 use Rattle.tanglegram.proofs.Lists.{all-length}
 use Rattle.tanglegram.proofs.Entanglement.{worst-most}
 use Rattle.tanglegram.proofs.Thousandths.{only_one, worst_positive}

@@ -5,7 +5,7 @@ use mathlib.Core.List.{List}
 use lib.ListN.{take}
 use Rattle.tanglegram.specs.Crossings.{count}
 use Rattle.tanglegram.specs.Entanglement.{displacement, worst}
-use Rattle.tanglegram.specs.Run.{left, right}
+use Rattle.tanglegram.specs.declared.side.Side.TheVariants.{Left as left, Right as right}
 use Rattle.tanglegram.proofs.Entanglement.{displacement-worst}
 use Rattle.record_fields.specs.Fields.{size_of, parts, parts_of}
 use Rattle.record_fields.specs.Refusals.{refusal}

@@ -5,7 +5,7 @@ ghost use Rattle.record_fields.specs.Fields.{parts};
 ghost use Rattle.record_arrays.specs.Shown.{shown_count, shown_order};
 ghost use Rattle.record_arrays.specs.Sides.{RecordOver};
 ghost use Rattle.tanglegram.specs.Entanglement.{displacement};
-ghost use Rattle.tanglegram.specs.Run.{left, right};
+ghost use Rattle.tanglegram.specs.declared.side.Side.TheVariants.{Left as left, Right as right};
 
 use record_arrays::take_orders;
 

@@ -7,7 +7,7 @@ use native.Mathlib.Omega.{arith}
 use borrow.Author.Tests.{le-leb}
 use lib.ListN.{length, take, replicate}
 use Rattle.tanglegram.specs.Order.{against_pins}
-use Rattle.tanglegram.specs.Run.{Side}
+use Rattle.tanglegram.specs.declared.side.Side.{Side}
 use Rattle.tanglegram.specs.Table.{Layouts, layout}
 use Rattle.work_matching.specs.Match.{KeepsPins}
 use Rattle.work_linked_trees.specs.Memory.{layouts_from}

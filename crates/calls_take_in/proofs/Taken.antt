@@ -11,7 +11,7 @@ use lib.ListN.{length, take}
 use lib.Seq.{sets, take_at}
 use Rattle.tanglegram.specs.Lists.{bit}
 use Rattle.tanglegram.specs.Order.{against_pins}
-use Rattle.tanglegram.specs.Run.{Side}
+use Rattle.tanglegram.specs.declared.side.Side.{Side}
 use Rattle.tanglegram.specs.Table.{layout}
 use Rattle.tanglegram.proofs.PinnedAs.{length-pinned_as}
 use Rattle.record_fields.specs.declared.refusal.Refusal.{Refusal}

@@ -2,7 +2,7 @@
 use Rattle.std.specs.Prelude.{ℕ, ◌≡◌, Bool, List, leb}
 use Rattle.tanglegram.specs.Lists.{bit}
 use Rattle.tanglegram.specs.Order.{pinned_as}
-use Rattle.tanglegram.specs.Run.{Side}
+use Rattle.tanglegram.specs.declared.side.Side.{Side}
 use Rattle.tanglegram.specs.Table.{Table, Layouts, layout, put, crossings, free}
 use Rattle.record_fields.specs.Refused.{lent, or_zero}
 use Rattle.record_fields.specs.Told.{told_of}

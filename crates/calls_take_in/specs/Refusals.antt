@@ -1,7 +1,7 @@
 -- The refusals of taking in an order, in their order (docs/CALLS.md): 13, then 1 to 10, 16, 23, 14. What is held plays no part.
 use Rattle.std.specs.Prelude.{ℕ, ◌-◌, not, List, ltb, length}
 use Rattle.tanglegram.specs.Order.{against_pins}
-use Rattle.tanglegram.specs.Run.{Side}
+use Rattle.tanglegram.specs.declared.side.Side.{Side}
 use Rattle.tanglegram.specs.Table.{layout}
 use Rattle.record_fields.specs.Fields.{size_of}
 use Rattle.record_fields.specs.Refusals.{◌when◌else◌, or_else, refusal}

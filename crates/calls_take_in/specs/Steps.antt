@@ -1,7 +1,7 @@
 -- The steps of taking in an order: what each of its functions tells, and what it leaves in the bytes lent to it.
 use Rattle.std.specs.Prelude.{ℕ, ◌-◌, ◌≡◌, not, List, take}
 use Rattle.tanglegram.specs.Order.{against_pins, pinned_as}
-use Rattle.tanglegram.specs.Run.{Side}
+use Rattle.tanglegram.specs.declared.side.Side.{Side}
 use Rattle.tanglegram.specs.Table.{layout, put, crossings, free}
 use Rattle.record_fields.specs.Fields.{size_of}
 use Rattle.record_fields.specs.Refusals.{◌when◌else◌}

@@ -6,7 +6,7 @@ use mathlib.Core.Bool.{true, false, not, true≢false}
 use mathlib.Core.List.{List}
 use native.Mathlib.Omega.{arith}
 use borrow.Author.Tests.{eq-eqb, ne_eqb, lt-ltb, le-ltb}
-use Rattle.tanglegram.specs.Run.{left, right}
+use Rattle.tanglegram.specs.declared.side.Side.TheVariants.{Left as left, Right as right}
 use Rattle.tanglegram.specs.Table.{crossings}
 use Rattle.record_fields.specs.Fields.{hold_of, parts}
 use Rattle.record_fields.specs.Refusals.{refusal}

@@ -1,6 +1,6 @@
 -- The refusals of free and run, in their order (docs/CALLS.md): 12, then 13, then 1 to 10, 11.
 use Rattle.std.specs.Prelude.{ℕ, Bool, not, ◌||◌, List, eqb, ltb}
-use Rattle.tanglegram.specs.Run.{left, right}
+use Rattle.tanglegram.specs.declared.side.Side.TheVariants.{Left as left, Right as right}
 use Rattle.record_fields.specs.Fields.{hold_of}
 use Rattle.record_fields.specs.Refusals.{◌when◌else◌, or_else, refusal}
 use Rattle.record_arrays.specs.Sides.{is_side, side_of, holds}

@@ -9,7 +9,9 @@ use lib.ListN.{length, take, drop}
 use lib.Seq.{take_at}
 use Rattle.tanglegram.specs.Tree.{Tree, EachRow}
 use Rattle.tanglegram.specs.Order.{Compatible, byte, flip, turn_row, may_change}
-use Rattle.tanglegram.specs.Run.{Side, left, right, other}
+use Rattle.tanglegram.specs.declared.side.Side.{Side}
+use Rattle.tanglegram.specs.declared.side.Side.TheVariants.{Left as left, Right as right}
+use Rattle.tanglegram.specs.Run.{other}
 use Rattle.tanglegram.specs.Table.{Layouts, layout, put, seen, crossings, free, Least}
 use Rattle.tanglegram.proofs.Lists.{all-length}
 use Rattle.tanglegram.proofs.Tree.{leaves_once}

@@ -5,7 +5,9 @@ use mathlib.Core.Bool.{Bool, true, false}
 use native.Mathlib.Omega.{arith}
 use borrow.Author.Tests.{eq-eqb}
 use Rattle.tanglegram.specs.Lists.{bit}
-use Rattle.tanglegram.specs.Run.{Side, left, right, other, after}
+use Rattle.tanglegram.specs.declared.side.Side.{Side}
+use Rattle.tanglegram.specs.declared.side.Side.TheVariants.{Left as left, Right as right}
+use Rattle.tanglegram.specs.Run.{other, after}
 use Rattle.tanglegram.specs.Table.{Table, Layouts, crossings, free, Least, Fits}
 use Rattle.tanglegram.proofs.Lists.{bit-most}
 use Rattle.tanglegram.proofs.Run.{stays_good, no_rise}

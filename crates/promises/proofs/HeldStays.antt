@@ -7,7 +7,9 @@ use native.Mathlib.Omega.{arith}
 use lib.ListN.{length, take, length-set}
 use lib.Seq.{take_at, length-take-le}
 use Rattle.tanglegram.specs.Order.{order, byte, turn_row}
-use Rattle.tanglegram.specs.Run.{Side, left, right, other, run, after}
+use Rattle.tanglegram.specs.declared.side.Side.{Side}
+use Rattle.tanglegram.specs.declared.side.Side.TheVariants.{Left as left, Right as right}
+use Rattle.tanglegram.specs.Run.{other, run, after}
 use Rattle.tanglegram.specs.Table.{Table, Layouts, layout, put, crossings, free, Least}
 use Rattle.tanglegram.proofs.Bytes.{flip-small}
 use Rattle.tanglegram.proofs.Run.{stays_good}

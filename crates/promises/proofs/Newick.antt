@@ -15,7 +15,8 @@ use lib.Seq.{take_at, drop_at}
 use Rattle.tanglegram.specs.Lists.{range}
 use Rattle.tanglegram.specs.Tree.{Tree, leaves}
 use Rattle.tanglegram.specs.Order.{byte}
-use Rattle.tanglegram.specs.Run.{Side, left, right}
+use Rattle.tanglegram.specs.declared.side.Side.{Side}
+use Rattle.tanglegram.specs.declared.side.Side.TheVariants.{Left as left, Right as right}
 use Rattle.tanglegram.specs.Table.{layout}
 use Rattle.tanglegram.proofs.Lists.{each_get_d, each-perm, range-each, length-perm, length-range}
 use Rattle.newick.specs.Sentence.{Sentence, leaf_numbers, leaf_count}

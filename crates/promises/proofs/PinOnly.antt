@@ -11,7 +11,8 @@ use lib.Dec.{eqb, ltb}
 use lib.ListN.{length, get_or, set, length-set}
 use lib.Seq.{get_or-set_same, get_or-set_other, set-get_or}
 use Rattle.tanglegram.specs.Order.{order, byte, turned, may_change, with_pin}
-use Rattle.tanglegram.specs.Run.{Side, left, right}
+use Rattle.tanglegram.specs.declared.side.Side.{Side}
+use Rattle.tanglegram.specs.declared.side.Side.TheVariants.{Left as left, Right as right}
 use Rattle.tanglegram.specs.Table.{layout}
 use Rattle.tanglegram.proofs.Bytes.{turned-with_pin, may_change-with_pin, with_pin-small, with_pin-same}
 use Rattle.tanglegram.proofs.Order.{order_same}

@@ -11,7 +11,9 @@ use lib.ListN.{set}
 use Rattle.tanglegram.specs.Lists.{place}
 use Rattle.tanglegram.specs.Tree.{leaves}
 use Rattle.tanglegram.specs.Order.{order, byte, turned, may_change, flip, turn_row}
-use Rattle.tanglegram.specs.Run.{Side, left, right, other, after}
+use Rattle.tanglegram.specs.declared.side.Side.{Side}
+use Rattle.tanglegram.specs.declared.side.Side.TheVariants.{Left as left, Right as right}
+use Rattle.tanglegram.specs.Run.{other, after}
 use Rattle.tanglegram.specs.Table.{Table, Layouts, layout, put, crossings, free, Fair, Fits}
 use Rattle.tanglegram.proofs.Bytes.{may_change-flip}
 use Rattle.tanglegram.proofs.Lists.{all_distinct, mem-perm, mem-range}

@@ -11,7 +11,7 @@ use borrow.Author.Tests.{eqb-true, eqb-false}
 use lib.Dec.{eqb, ltb}
 use lib.ListN.{length, length-append}
 use Rattle.tanglegram.specs.Entanglement.{worst}
-use Rattle.tanglegram.specs.Run.{left, right}
+use Rattle.tanglegram.specs.declared.side.Side.TheVariants.{Left as left, Right as right}
 use Rattle.tanglegram.specs.Table.{Layouts, crossings, order_of}
 use Rattle.tanglegram.proofs.Crossings.{count_fits}
 use Rattle.tanglegram.proofs.Entanglement.{worst-most}

@@ -11,7 +11,8 @@ use lib.ListN.{length, take, drop, length-take}
 use lib.Seq.{take_at, drop_at}
 use Rattle.tanglegram.specs.Lists.{Each, bit}
 use Rattle.tanglegram.specs.Order.{may_change, byte_of, byte, order, Choice, against_pins}
-use Rattle.tanglegram.specs.Run.{Side, left, right}
+use Rattle.tanglegram.specs.declared.side.Side.{Side}
+use Rattle.tanglegram.specs.declared.side.Side.TheVariants.{Left as left, Right as right}
 use Rattle.tanglegram.specs.Table.{layout, put, crossings, free, Fits}
 use Rattle.tanglegram.proofs.Bytes.{byte_of-read}
 use Rattle.tanglegram.proofs.Lists.{all-length, each_get_d}

@@ -11,7 +11,7 @@ use Rattle.tanglegram.specs.Tree.{leaves, deep, object, used}
 use Rattle.tanglegram.specs.Order.{may_change, byte, order, Choice, write, uppermost, reading, pinned_as, against_pins}
 use Rattle.tanglegram.specs.Crossings.{over, across, pairs, count}
 use Rattle.tanglegram.specs.Freeing.{choose, freed}
-use Rattle.tanglegram.specs.Run.{left}
+use Rattle.tanglegram.specs.declared.side.Side.TheVariants.{Left as left}
 use Rattle.tanglegram.specs.Table.{layout, put, crossings}
 use Rattle.work_tree_rule.specs.Rule.{among, first, bad_row}
 use Rattle.record_fields.specs.Fields.{numbers, split, parts_of, packed}

@@ -12,7 +12,7 @@ use lib.Dec.{ltb}
 use lib.ListN.{length, get_or, take}
 use Rattle.tanglegram.specs.Tree.{leaves}
 use Rattle.tanglegram.specs.Order.{turned, byte, order, Choice, against_pins}
-use Rattle.tanglegram.specs.Run.{Side}
+use Rattle.tanglegram.specs.declared.side.Side.{Side}
 use Rattle.tanglegram.specs.Table.{layout}
 use Rattle.tanglegram.proofs.Bools.{must_fail}
 use Rattle.tanglegram.proofs.Lists.{all_distinct, each-mem, mem-perm, mem-range}

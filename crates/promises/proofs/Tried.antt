@@ -13,7 +13,8 @@ use Rattle.tanglegram.specs.Tree.{leaves, deep, object, used, Row}
 use Rattle.tanglegram.specs.Order.{order, write, turned, may_change}
 use Rattle.tanglegram.specs.Crossings.{over, across, pairs, count}
 use Rattle.tanglegram.specs.Freeing.{choose, freed}
-use Rattle.tanglegram.specs.Run.{left, after}
+use Rattle.tanglegram.specs.declared.side.Side.TheVariants.{Left as left}
+use Rattle.tanglegram.specs.Run.{after}
 use Rattle.tanglegram.specs.Entanglement.{sum, displacement, worst}
 use Rattle.tanglegram.specs.Examples.{case2, gains_in_turn2, one_leaf}
 use Rattle.work_trees.specs.Rows.{upper, lower}

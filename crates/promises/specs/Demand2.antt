@@ -5,7 +5,9 @@ use Rattle.std.specs.Prelude.{ℕ, ◌<◌, ◌≡◌, true, ◌↔◌, ◌⊎�
 use Rattle.tanglegram.specs.Tree.{EachRow}
 use Rattle.tanglegram.specs.Order.{order, Compatible, byte, flip, turn_row, may_change}
 use Rattle.tanglegram.specs.Crossings.{count}
-use Rattle.tanglegram.specs.Run.{Side, left, right, other}
+use Rattle.tanglegram.specs.declared.side.Side.{Side}
+use Rattle.tanglegram.specs.declared.side.Side.TheVariants.{Left as left, Right as right}
+use Rattle.tanglegram.specs.Run.{other}
 use Rattle.tanglegram.specs.Table.{layout, put, Least}
 use Rattle.record_fields.specs.declared.refusal.Refusal.{Refusal}
 use Rattle.record_fields.specs.Fields.{size_of, parts}

@@ -2,7 +2,9 @@
 -- demand 2. No turn raises the count. The turns taken are at most the first count less the last, plus two. An allowance of the first
 -- count plus two always ends settled, and settled means that no choice on either side alone, the other standing, crosses less."
 use Rattle.std.specs.Prelude.{ℕ, zero, suc, pred, ◌+◌, ◌≤◌, ◌<◌, ◌≡◌, List}
-use Rattle.tanglegram.specs.Run.{Side, left, other, after}
+use Rattle.tanglegram.specs.declared.side.Side.{Side}
+use Rattle.tanglegram.specs.declared.side.Side.TheVariants.{Left as left}
+use Rattle.tanglegram.specs.Run.{other, after}
 use Rattle.tanglegram.specs.Table.{Layouts, crossings, free, Least}
 use Rattle.record_fields.specs.Fields.{hold_of}
 use Rattle.record_fields.specs.Refusals.{refusal}

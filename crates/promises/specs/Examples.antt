@@ -4,7 +4,7 @@
 use Rattle.std.specs.Prelude.{ℕ, suc, ◌≡◌, Bool, true, false, cond, ◌&&◌, List, [], ◌∷◌, map, Float}
 use Rattle.std.proofs.Math.Option.{Option, some, none}
 use Rattle.tanglegram.specs.Lists.{range}
-use Rattle.tanglegram.specs.Run.{left, right}
+use Rattle.tanglegram.specs.declared.side.Side.TheVariants.{Left as left, Right as right}
 use Rattle.tanglegram.specs.Table.{order_of, crossings}
 use Rattle.tanglegram.specs.Examples.{Case, Shown, Line, bytes_of, case_own, case2, one_leaf, examples}
 use Rattle.newick.specs.Sentence.{leaf_count}

@@ -1,7 +1,7 @@
 -- Demand 1: "A refused call changes no lent byte. A held side is never moved." For the calls that may change a record's layouts,
 -- in every outcome; they change layout bytes only, and an accepted record is accepted again.
 use Rattle.std.specs.Prelude.{ℕ, ◌≡◌, true, List, length, take}
-use Rattle.tanglegram.specs.Run.{Side}
+use Rattle.tanglegram.specs.declared.side.Side.{Side}
 use Rattle.tanglegram.specs.Table.{layout}
 use Rattle.record_fields.specs.Fields.{hold_of, size_of, left_layout_at, parts}
 use Rattle.record_fields.specs.Refusals.{refusal}

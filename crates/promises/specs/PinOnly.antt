@@ -2,7 +2,7 @@
 -- no count, no hold and no other byte; and its refusals are 13, then 1 to 10, then 15, in that order, and no other.
 use Rattle.std.specs.Prelude.{ℕ, pred, ◌+◌, ◌≡◌, ◌≢◌, Bool, true, false, not, List, length, get_or}
 use Rattle.tanglegram.specs.Order.{turned, may_change}
-use Rattle.tanglegram.specs.Run.{Side}
+use Rattle.tanglegram.specs.declared.side.Side.{Side}
 use Rattle.record_fields.specs.Fields.{hold_of, size_of}
 use Rattle.record_fields.specs.Refusals.{refusal}
 use Rattle.record_fields.specs.declared.refusal.Refusal.{Refusal}

@@ -5,7 +5,7 @@ use Rattle.std.specs.Prelude.{ℕ, ◌≤◌, ◌<◌, ◌≡◌, Bool, false, �
 use Rattle.tanglegram.specs.Lists.{place}
 use Rattle.tanglegram.specs.Tree.{EachAbove}
 use Rattle.tanglegram.specs.Order.{turned, may_change, Choice}
-use Rattle.tanglegram.specs.Run.{Side}
+use Rattle.tanglegram.specs.declared.side.Side.{Side}
 use Rattle.tanglegram.specs.Table.{layout}
 use Rattle.record_fields.specs.Fields.{size_of}
 use Rattle.record_fields.specs.Refusals.{refusal}

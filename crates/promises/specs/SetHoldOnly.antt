@@ -3,7 +3,7 @@
 use Rattle.std.specs.Prelude.{ℕ, ◌≡◌, ◌≢◌, true, false, List, length, get_or}
 use Rattle.record_fields.specs.declared.refusal.Refusal.{Refusal}
 use Rattle.record_fields.specs.Refusals.{is_hold, refusal}
-use Rattle.tanglegram.specs.Run.{Side}
+use Rattle.tanglegram.specs.declared.side.Side.{Side}
 use Rattle.record_arrays.specs.Shown.{shown_order}
 use Rattle.record.specs.Calls.{SetsHold}
 use Rattle.promises.specs.HeldStays.{SameTrees}

@@ -1,6 +1,6 @@
 -- Wrong outcomes of taking in an order that the promise excludes: each was tried.
 use Rattle.std.specs.Prelude.{ℕ, List, [], ◌∷◌}
-use Rattle.tanglegram.specs.Run.{left}
+use Rattle.tanglegram.specs.declared.side.Side.TheVariants.{Left as left}
 use Rattle.tanglegram.specs.Examples.{case2, root_pinned}
 use Rattle.record_fields.specs.Refused.{refused}
 use Rattle.calls_take_in.specs.declared.answers.TakenIn.{TakenIn}

@@ -6,7 +6,7 @@ use mathlib.Core.List.{List, Permᴰ}
 use Rattle.tanglegram.specs.Lists.{Each, range}
 use Rattle.tanglegram.specs.Tree.{Rule}
 use Rattle.tanglegram.specs.Order.{Choice, against_pins, Compatible}
-use Rattle.tanglegram.specs.Run.{Side}
+use Rattle.tanglegram.specs.declared.side.Side.{Side}
 use Rattle.work_trees.specs.Rows.{upper, lower}
 use Rattle.work_tree_rule.specs.Rule.{bad_row, Lowest}
 use Rattle.record_fields.specs.Fields.{size_of}

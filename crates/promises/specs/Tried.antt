@@ -1,6 +1,6 @@
 -- Wrong outcomes that the promises exclude: each was tried. Those of freeing, running and better of two met an earlier wording.
 use Rattle.std.specs.Prelude.{ℕ, ◌≤◌, ◌≡◌, ◌≢◌, true, List, [], ◌∷◌, ℤ}
-use Rattle.tanglegram.specs.Run.{left}
+use Rattle.tanglegram.specs.declared.side.Side.TheVariants.{Left as left}
 use Rattle.tanglegram.specs.Examples.{bytes_of, case2_with, case2, root_pinned, roots_tie, gains_in_turn2, one_leaf}
 use Rattle.record_fields.specs.Fields.{Parts, given}
 use Rattle.record_fields.specs.Meaning.{relaid}

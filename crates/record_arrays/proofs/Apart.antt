@@ -6,7 +6,7 @@ use native.Mathlib.Omega.{arith}
 use lib.ListN.{length, take, drop, replicate, length-append, length-take, length-drop, drop_of_length-le}
 use lib.Seq.{sets, sets-eq, take_at, length-take-le}
 use Rattle.tanglegram.specs.Tree.{leaves}
-use Rattle.tanglegram.specs.Run.{Side}
+use Rattle.tanglegram.specs.declared.side.Side.{Side}
 use Rattle.tanglegram.specs.Table.{layout, order_of}
 use Rattle.tanglegram.proofs.Lists.{all-length, append-nil}
 use Rattle.work_trees.specs.Rows.{size, tree_of}

@@ -8,7 +8,8 @@ use lib.ListN.{length, take, drop, set}
 use lib.Seq.{sets}
 use Rattle.tanglegram.specs.Lists.{range}
 use Rattle.tanglegram.specs.Tree.{leaves, tree, Rule}
-use Rattle.tanglegram.specs.Run.{Side, left, right}
+use Rattle.tanglegram.specs.declared.side.Side.{Side}
+use Rattle.tanglegram.specs.declared.side.Side.TheVariants.{Left as left, Right as right}
 use Rattle.tanglegram.specs.Table.{layout, order_of}
 use Rattle.tanglegram.proofs.Tree.{leaves_once}
 use Rattle.tanglegram.proofs.Order.{order-perm}

@@ -11,7 +11,8 @@ use lib.Dec.{eqb, ltb}
 use lib.ListN.{length, get_or, take, drop, set, length-set, take-append-drop}
 use lib.Seq.{drop-drop, set-append_left, take-set-le, drop-set-add, get_or-take, get_or-drop}
 use Rattle.tanglegram.specs.Lists.{Each}
-use Rattle.tanglegram.specs.Run.{Side, left, right}
+use Rattle.tanglegram.specs.declared.side.Side.{Side}
+use Rattle.tanglegram.specs.declared.side.Side.TheVariants.{Left as left, Right as right}
 use Rattle.tanglegram.specs.Table.{Layouts, layout}
 use Rattle.tanglegram.proofs.Bools.{or_neither}
 use Rattle.tanglegram.proofs.Lists.{each_get_d}

@@ -6,7 +6,8 @@ use native.Mathlib.Nat.{add-sub_cancel_left}
 use native.Mathlib.Omega.{arith}
 use lib.ListN.{length, take, drop, length-drop, drop_of_length-le}
 use lib.Seq.{take_all, take-add, drop-drop}
-use Rattle.tanglegram.specs.Run.{Side, left, right}
+use Rattle.tanglegram.specs.declared.side.Side.{Side}
+use Rattle.tanglegram.specs.declared.side.Side.TheVariants.{Left as left, Right as right}
 use Rattle.tanglegram.specs.Table.{put}
 use Rattle.tanglegram.proofs.Lists.{append-nil}
 use Rattle.record_fields.specs.Fields.{bytes, size_of, left_layout_at, right_layout_at, parts_of}

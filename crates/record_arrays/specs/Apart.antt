@@ -1,6 +1,6 @@
 -- An accepted record over n leaves taken apart into arrays.
 use Rattle.std.specs.Prelude.{ℕ, ◌≡◌, List, take}
-use Rattle.tanglegram.specs.Run.{left, right}
+use Rattle.tanglegram.specs.declared.side.Side.TheVariants.{Left as left, Right as right}
 use Rattle.record_fields.specs.Fields.{parts}
 use Rattle.record_fields.specs.Meaning.{table_of}
 use Rattle.work_orders.specs.Between.{Between}

@@ -1,7 +1,7 @@
 -- One row of a record, by its side and its number: whether there is such a row, and its layout byte.
 use Rattle.std.specs.Prelude.{ℕ, pred, ◌-◌, Bool, ◌||◌, List, eqb, ltb, set}
 use Rattle.tanglegram.specs.Order.{byte}
-use Rattle.tanglegram.specs.Run.{Side}
+use Rattle.tanglegram.specs.declared.side.Side.{Side}
 use Rattle.tanglegram.specs.Table.{Layouts, layout, put}
 use Rattle.record_fields.specs.Meaning.{layouts_of}
 

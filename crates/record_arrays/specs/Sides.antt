@@ -1,6 +1,7 @@
 -- Sides as numbers (`tanglegram`), which sides a hold holds, and where a side's parts stand in a record.
 use Rattle.std.specs.Prelude.{ℕ, ◌≡◌, Bool, ◌||◌, List, eqb}
-use Rattle.tanglegram.specs.Run.{Side, left, right}
+use Rattle.tanglegram.specs.declared.side.Side.{Side}
+use Rattle.tanglegram.specs.declared.side.Side.TheVariants.{Left as left, Right as right}
 use Rattle.record_fields.specs.Fields.{right_at, left_layout_at, right_layout_at, Sized}
 use Rattle.record_fields.specs.Refusals.{refusal}
 unfoldable pub use Rattle.tanglegram.specs.Sides.{is_side}

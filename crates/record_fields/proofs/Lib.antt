@@ -3,6 +3,7 @@ pub mod Cuts
 pub mod RowArrays
 pub mod Tests
 pub mod Heading
+pub mod Holds
 pub mod Contents
 pub mod Acceptance
 pub mod Refused

@@ -10,7 +10,7 @@ use lib.ListN.{length, get_or, take, drop, length-append, length-drop, take-appe
 use lib.Seq.{length-take-le, take_all, get_or-take, drop-drop, take_at, drop_at}
 use Rattle.tanglegram.specs.Lists.{range}
 use Rattle.tanglegram.specs.Tree.{Rule}
-use Rattle.tanglegram.specs.Run.{Side}
+use Rattle.tanglegram.specs.declared.side.Side.{Side}
 use Rattle.tanglegram.specs.Table.{Layouts, layout}
 use Rattle.tanglegram.specs.Table.{Fair, Fits}
 use Rattle.tanglegram.proofs.Table.{rule_fair, rule_fits, rule-rows}

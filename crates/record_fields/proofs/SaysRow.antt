@@ -10,8 +10,8 @@ use lib.Dec.{eqb}
 use Rattle.work_trees.specs.Rows.{upper, lower}
 use Rattle.work_tree_rule.specs.Rule.{bad_row, Lowest}
 use Rattle.work_tree_rule.proofs.Rule.{bad_row-lowest}
-use Rattle.record_fields.specs.declared.refusal.Refusal.{Refusal}
 use Rattle.record_fields.specs.Fields.{Parts, parts}
+use Rattle.record_fields.specs.Refused.{NumberAndRow}
 use Rattle.record_fields.specs.Refusals.{◌when◌else◌, breaks_rule, one_to_one, is_layout, contents_refusal}
 use Rattle.record_fields.specs.Told.{row_for, told_in, told_of, tells_row, OwnRow, SaysRow}
 use Rattle.record_fields.proofs.Told.{row_7, row_8, row-none, differs, each_when, own_contents}
@@ -105,11 +105,11 @@ module _ (P : Parts) {k : ℕ} (own : tells_row k ≡ true → contents_refusal 
   }
 
 -- an answer that is told of parts
-pub tells-row_in : (P : Parts) {k : ℕ} {answer : Refusal} → (tells_row k ≡ true → contents_refusal P ≡ k) → answer ≡ told_in P k →
+pub tells-row_in : (P : Parts) {k : ℕ} {answer : NumberAndRow} → (tells_row k ≡ true → contents_refusal P ≡ k) → answer ≡ told_in P k →
     SaysRow P answer.number answer.row
 tells-row_in P own e = subst (λ a. SaysRow P a.number a.row) (sym e) (says-row_in P own)
 
 -- and of a record
-pub told_row : (s : List ℕ) {k : ℕ} {answer : Refusal} → OwnRow s k → answer ≡ told_of s k →
+pub told_row : (s : List ℕ) {k : ℕ} {answer : NumberAndRow} → OwnRow s k → answer ≡ told_of s k →
     SaysRow (parts s) answer.number answer.row
 told_row s is e = tells-row_in (parts s) (own_contents s is) e

@@ -1,11 +1,12 @@
 -- A run of stores, one place after the other: what is stored next, and lists that grow at their end.
-use Prim.Native.Nat.{ℕ, zero, suc, ◌+◌, ◌*◌, ◌/◌, ◌%◌, ◌≤◌, ◌<◌}
+use Prim.Native.Nat.{ℕ, zero, suc, ◌+◌, ◌-◌, ◌*◌, ◌/◌, ◌%◌, ◌≤◌, ◌<◌}
 use mathlib.Core.Path.{◌≡◌, refl, sym, ap, ◌∙◌}
-use mathlib.Core.List.{List, [], ◌∷◌, ◌++◌, map}
+use mathlib.Core.List.{List, [], ◌∷◌, ◌++◌, append_assoc, map}
 use native.Mathlib.Numerals.{add-one}
 use native.Mathlib.Omega.{arith}
 use lib.ListN.{length, get_or, set, take, drop, length-drop}
-use lib.Seq.{sets, sets-eq, length-take-le}
+use lib.Seq.{sets, sets-eq, drop-drop, length-take-le}
+use borrow.Rule.Slice.PartMut.{put_mid}
 use Rattle.tanglegram.specs.Lists.{range}
 use Rattle.tanglegram.proofs.Lists.{map_ext, range-each}
 use Rattle.tanglegram.proofs.ListSums.{range_last}
@@ -22,6 +23,12 @@ numbers_ext s s' k m h =
 -- a run from the first place on
 pub sets_front : {A : Type 0} (l vs : List A) → length vs ≤ length l → sets l 0 vs ≡ vs ++ drop (length vs) l
 sets_front l vs h = let e : 0 + length vs ≡ length vs = omega arith in sets-eq vs l 0 (omega arith) ∙ ap (λ k. vs ++ drop k l) e
+
+-- what is copied to the part that begins at `at` and is as long as xs is stored there
+pub copied_in : (xs l : List ℕ) (at : ℕ) → at + length xs ≤ length l → put_mid at (at + length xs - at) l xs ≡ sets l at xs
+copied_in xs l at h =
+    let long : at + length xs - at ≡ length xs = omega arith in
+    rw long (rw (drop-drop (length xs) at l) (sym (sets-eq xs l at h ∙ append_assoc (take at l) xs (drop (at + length xs) l))))
 
 -- a range grows at its end, and so does what is made of it
 pub map-append : (f : ℕ → ℕ) (xs ys : List ℕ) → map f (xs ++ ys) ≡ map f xs ++ map f ys

@@ -10,12 +10,11 @@ use lib.Dec.{eqb, ltb}
 use lib.ListN.{length}
 use Rattle.work_trees.specs.Rows.{upper, lower}
 use Rattle.work_tree_rule.specs.Rule.{bad_row}
-use Rattle.record_fields.specs.declared.refusal.Refusal.{Refusal}
 use Rattle.record_fields.specs.Fields.{two, numbers, version_at, left_at, hold_of, size_of, right_at, length_of}
 use Rattle.record_fields.specs.Fields.{Parts, parts_of, parts, Sized}
 use Rattle.record_fields.specs.Refusals.{or_else, is_mark, is_hold, no_size, breaks_rule, heading_refusal, contents_refusal}
 use Rattle.record_fields.specs.Refusals.{refusal, set_hold_refusal}
-use Rattle.record_fields.specs.Refused.{refused, refused_row}
+use Rattle.record_fields.specs.Refused.{NumberAndRow, refused, refused_row}
 use Rattle.record_fields.specs.Told.{row_for, told_in, told_of, ToldContents, tells_row, OwnRow}
 use Rattle.record_fields.proofs.Contents.{broken, contents_7, contents_8}
 use Rattle.record_fields.proofs.Acceptance.{refusal_contents, heading_sized}
@@ -51,7 +50,7 @@ told_none P e = rw e (told-alone P (record { alone = refl }))
 
 -- ---- from the row that was found in a record to what is told
 
-module _ (s : List ℕ) {k : ℕ} {answer : Refusal} where
+module _ (s : List ℕ) {k : ℕ} {answer : NumberAndRow} where
   pub told-left : {n row : ℕ} → k ≡ 7 → n ≡ size_of s →
       row ≡ bad_row n (upper (numbers s left_at (2 * (n - 1)))) (lower (numbers s left_at (2 * (n - 1)))) → answer ≡ refused_row k row →
       answer ≡ told_of s k
@@ -76,7 +75,7 @@ module _ (s : List ℕ) {k : ℕ} {answer : Refusal} where
 
 -- ---- from the test of parts that was met to what is told
 
-module _ (P : Parts) {answer : Refusal} where
+module _ (P : Parts) {answer : NumberAndRow} where
   pub told_7 : {row : ℕ} → row ≡ bad_row P.size (upper P.left_rows) (lower P.left_rows) → row ≢ 0 → answer ≡ refused_row 7 row →
       ToldContents P answer
   told_7 b h r = record {

@@ -1,7 +1,7 @@
 -- What a record means: two trees, links and layouts; and a record with other layouts.
 use Rattle.std.specs.Prelude.{ℕ, List, ◌++◌, take}
 use Rattle.tanglegram.specs.Tree.{Tree, tree}
-use Rattle.tanglegram.specs.Run.{Side}
+use Rattle.tanglegram.specs.declared.side.Side.{Side}
 use Rattle.tanglegram.specs.Table.{Table, Layouts, pick, linked}
 use Rattle.work_trees.specs.Rows.{upper, lower}
 use Rattle.record_fields.specs.Fields.{size_of, left_layout_at, Parts, parts}

@@ -1,10 +1,10 @@
 -- The refusals 1 to 10, in their order (docs/CALLS.md). 0 is no refusal.
-use Rattle.std.specs.Prelude.{ℕ, zero, suc, Bool, true, cond, not, ◌&&◌, ◌||◌, List, [], ◌∷◌, eqb, leb, ltb, length, get_or}
+use Rattle.std.specs.Prelude.{ℕ, ◌≡◌, zero, suc, Bool, true, cond, not, ◌&&◌, ◌||◌, List, [], ◌∷◌, eqb, leb, ltb, length, get_or}
 use Rattle.tanglegram.specs.Lists.{range}
 use Rattle.work_trees.specs.Rows.{upper, lower}
 use Rattle.work_tree_rule.specs.Rule.{among, bad_row}
 use Rattle.record_fields.specs.Letters.{letter_t, letter_g, letter_p, letter_n, letter_l, letter_r, letter_b}
-use Rattle.record_fields.specs.Fields.{two, most_leaves, version_at, hold_of, size_of, length_of, Parts, parts}
+use Rattle.record_fields.specs.Fields.{two, most_leaves, version_at, hold_of, size_of, length_of, Parts, parts, Sized}
 
 -- The number k if the test is met, else what comes after it; the first of two refusals.
 infixr 10 ◌when◌else◌
@@ -79,3 +79,8 @@ refusal s = or_else (heading_refusal s) (contents_refusal (parts s))
 unfoldable pub set_hold_refusal : List ℕ → ℕ → ℕ
 unfolding refusal is_hold
 set_hold_refusal s letter = 4 when not (is_hold letter) else refusal s
+
+-- An accepted record over n leaves.
+pub record RecordOver (s : List ℕ) (n : ℕ) : Type 0 where
+  pub accepted : refusal s ≡ 0
+  pub sized : Sized s n

@@ -3,10 +3,9 @@
 use Rattle.std.specs.Prelude.{ℕ, ◌≤◌, ◌<◌, ◌≡◌, ◌≢◌, ◌⊎◌, ◌↔◌, Bool, true, ◌||◌, List, eqb}
 use Rattle.work_trees.specs.Rows.{upper, lower}
 use Rattle.work_tree_rule.specs.Rule.{bad_row, Lowest}
-use Rattle.record_fields.specs.declared.refusal.Refusal.{Refusal}
 use Rattle.record_fields.specs.Fields.{Parts, parts}
 use Rattle.record_fields.specs.Refusals.{◌when◌else◌, contents_refusal, refusal}
-use Rattle.record_fields.specs.Refused.{refused_row}
+use Rattle.record_fields.specs.Refused.{NumberAndRow, refused_row}
 
 -- The row that is told with the number k, of left and right rows over n leaves; 0 for none.
 unfoldable pub row_for : ℕ → List ℕ → List ℕ → ℕ → ℕ
@@ -17,14 +16,14 @@ row_for n left right k =
     else 0
 
 -- The refusal that is told for the number k, of parts and of a record.
-abbrev pub told_in : Parts → ℕ → Refusal
+abbrev pub told_in : Parts → ℕ → NumberAndRow
 told_in P k = refused_row k (row_for P.size P.left_rows P.right_rows k)
 
-abbrev pub told_of : List ℕ → ℕ → Refusal
+abbrev pub told_of : List ℕ → ℕ → NumberAndRow
 told_of s k = told_in (parts s) k
 
 -- The answer is the refusal of the content of parts.
-pub record ToldContents (P : Parts) (answer : Refusal) : Type 0 where
+pub record ToldContents (P : Parts) (answer : NumberAndRow) : Type 0 where
   pub told : answer ≡ told_in P (contents_refusal P)
 
 -- The numbers that a row is told with.

@@ -8,7 +8,7 @@ pub fn number(s: &[u8], at: usize) -> u16
     requires { at + 1 < length s.now }
     ensures { result ≡ two s.now at }
 {
-    (s[at] as u16) * 256 + (s[at + 1] as u16)
+    u16::from(s[at]) * 256 + u16::from(s[at + 1])
 }
 
 // Writes a number to out at place `at`.
@@ -25,10 +25,8 @@ pub fn numbers_out(s: &[u8], at: usize, m: usize, out: &mut [u16])
     requires { (at + 2 * m ≤ length s.now) × (m ≤ length out.old) }
     ensures { out.new ≡ sets out.old 0 (numbers s.now at m) }
 {
-    let mut i = 0;
-    while i < m {
+    for i in 0..m {
         out[i] = number(s, at + 2 * i);
-        i += 1;
     }
 }
 
@@ -37,11 +35,8 @@ pub fn bytes_in(list: &[u8], out: &mut [u8], at: usize)
     requires { at + length list.now ≤ length out.old }
     ensures { out.new ≡ sets out.old at list.now }
 {
-    let mut i = 0;
-    while i < list.len() {
-        out[at + i] = list[i];
-        i += 1;
-    }
+    let end = at + list.len();
+    out[at..end].copy_from_slice(list);
 }
 
 // Writes the numbers of list to out's first places.
@@ -49,11 +44,7 @@ pub fn copied(list: &[u16], out: &mut [u16])
     requires { length list.now ≤ length out.old }
     ensures { out.new ≡ sets out.old 0 list.now }
 {
-    let mut i = 0;
-    while i < list.len() {
-        out[i] = list[i];
-        i += 1;
-    }
+    out[..list.len()].copy_from_slice(list);
 }
 
 // Writes the numbers of list to out from place `at` on, two bytes each.
@@ -61,9 +52,7 @@ pub fn numbers_in(list: &[u16], out: &mut [u8], at: usize)
     requires { at + 2 * length list.now ≤ length out.old }
     ensures { out.new ≡ sets out.old at (split list.now) }
 {
-    let mut i = 0;
-    while i < list.len() {
-        number_in(list[i], out, at + 2 * i);
-        i += 1;
+    for (i, &x) in list.iter().enumerate() {
+        number_in(x, out, at + 2 * i);
     }
 }

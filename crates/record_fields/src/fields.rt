@@ -1,5 +1,5 @@
-// The numbers of a record (docs/RECORD.md), each here and nowhere else: the limits, the letters, and where each part
-// of the bytes stands. Whatever reads or writes a record's bytes asks here.
+// The numbers of a record (docs/RECORD.md), each here and nowhere else: the limits, the mark, and where each part of
+// the bytes stands. Whatever reads or writes a record's bytes asks here.
 ghost use Rattle.std.specs.Prelude.{◌≡◌, ◌≤◌, length};
 ghost use Rattle.record_fields.specs.Fields.{hold_of, left_layout_at, length_of, links_at};
 ghost use Rattle.record_fields.specs.Fields.{right_at, right_layout_at, size_of};
@@ -20,14 +20,6 @@ pub const OBJECTS: usize = 2 * LEAVES;
 pub const MARK_TGP: [u8; 3] = [b'T', b'G', b'P'];
 // the version of the format
 pub const VERSION_1: u16 = 1;
-// the hold's letter: neither side is held
-pub const NEITHER: u8 = b'N';
-// the left is held
-pub const LEFT: u8 = b'L';
-// the right is held
-pub const RIGHT: u8 = b'R';
-// both are held
-pub const BOTH: u8 = b'B';
 // where the version stands in a record
 pub const VERSION_AT: usize = 3;
 // where the hold stands
@@ -42,7 +34,7 @@ pub fn right_rows_at(n: u16) -> usize
     requires { 1 ≤ n }
     ensures { result ≡ right_at n }
 {
-    LEFT_ROWS_AT + 4 * (n as usize - 1)
+    LEFT_ROWS_AT + 4 * (usize::from(n) - 1)
 }
 
 // Where its links begin.
@@ -50,7 +42,7 @@ pub fn links_at(n: u16) -> usize
     requires { 1 ≤ n }
     ensures { result ≡ links_at n }
 {
-    LEFT_ROWS_AT + 8 * (n as usize - 1)
+    LEFT_ROWS_AT + 8 * (usize::from(n) - 1)
 }
 
 // Where its left layout begins.
@@ -58,7 +50,7 @@ pub fn left_layout_at(n: u16) -> usize
     requires { 1 ≤ n }
     ensures { result ≡ left_layout_at n }
 {
-    links_at(n) + 2 * (n as usize)
+    links_at(n) + 2 * usize::from(n)
 }
 
 // Where its right layout begins.
@@ -66,7 +58,7 @@ pub fn right_layout_at(n: u16) -> usize
     requires { 1 ≤ n }
     ensures { result ≡ right_layout_at n }
 {
-    left_layout_at(n) + (n as usize - 1)
+    left_layout_at(n) + (usize::from(n) - 1)
 }
 
 // How many bytes it has.
@@ -74,7 +66,7 @@ pub fn length_of(n: u16) -> usize
     requires { 1 ≤ n }
     ensures { result ≡ length_of n }
 {
-    12 * (n as usize) - 2
+    12 * usize::from(n) - 2
 }
 
 // The hold that a record's first eight bytes say.

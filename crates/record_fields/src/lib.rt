@@ -5,6 +5,7 @@
 pub mod copying;
 pub mod fields;
 mod filling;
+pub mod hold;
 pub mod refusal;
 
 pub use filling::{fill_links, fill_rows};

@@ -13,7 +13,7 @@ use lib.Seq.{sets, length-take-le}
 use Rattle.tanglegram.specs.Lists.{Each, range}
 use Rattle.tanglegram.specs.Tree.{Tree, rows, leaves}
 use Rattle.tanglegram.specs.Order.{order, reading, Compatible}
-use Rattle.tanglegram.specs.Run.{Side}
+use Rattle.tanglegram.specs.declared.side.Side.{Side}
 use Rattle.tanglegram.proofs.Bools.{and_both}
 use Rattle.tanglegram.proofs.Lists.{all_distinct, each-perm, range-each}
 use Rattle.tanglegram.proofs.Write.{length-write}

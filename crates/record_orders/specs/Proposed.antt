@@ -1,7 +1,7 @@
 -- An order proposed for a tree over n leaves: which lists are one, as a test that can be carried out, and the layout that one shows.
 use Rattle.std.specs.Prelude.{ℕ, ◌-◌, ◌≡◌, Bool, cond, ◌&&◌, List, [], ◌∷◌, eqb, leb, length, take, replicate}
 use Rattle.tanglegram.specs.Order.{order, reading}
-use Rattle.tanglegram.specs.Run.{Side}
+use Rattle.tanglegram.specs.declared.side.Side.{Side}
 use Rattle.tanglegram.specs.Tree.{Tree}
 use Rattle.record_fields.specs.Meaning.{table_of}
 

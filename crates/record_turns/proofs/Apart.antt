@@ -4,7 +4,9 @@ use mathlib.Core.Path.{◌≡◌, sym, ap, ap₂, ◌∙◌}
 use mathlib.Core.List.{List}
 use lib.ListN.{take}
 use Rattle.tanglegram.specs.Lists.{bit}
-use Rattle.tanglegram.specs.Run.{Side, left, right, run}
+use Rattle.tanglegram.specs.declared.side.Side.{Side}
+use Rattle.tanglegram.specs.declared.side.Side.TheVariants.{Left as left, Right as right}
+use Rattle.tanglegram.specs.Run.{run}
 use Rattle.tanglegram.specs.Table.{Layouts, linked, crossings, free}
 use Rattle.record_fields.specs.Fields.{parts, parts_of}
 use Rattle.record_fields.specs.Meaning.{table_of, layouts_of, relaid}

@@ -1,7 +1,8 @@
 -- What freeing a side, and a run, make of an accepted record: the counts, the turns, and the record afterwards.
 use Rattle.std.specs.Prelude.{ℕ, ◌≡◌, List}
 use Rattle.tanglegram.specs.Lists.{bit}
-use Rattle.tanglegram.specs.Run.{Side, End, run}
+use Rattle.tanglegram.specs.declared.side.Side.{Side}
+use Rattle.tanglegram.specs.Run.{End, run}
 use Rattle.tanglegram.specs.Table.{Layouts, crossings, free}
 use Rattle.record_fields.specs.Meaning.{table_of, layouts_of, relaid}
 use Rattle.record_arrays.specs.Shown.{shown_count}

@@ -9,7 +9,8 @@ use Rattle.tanglegram.specs.Lists.{Each, range}
 use Rattle.tanglegram.specs.Tree.{Tree, leaves, rows}
 use Rattle.tanglegram.specs.Crossings.{end, inverted, cost, seen_left, seen_right}
 use Rattle.tanglegram.specs.Freeing.{freed}
-use Rattle.tanglegram.specs.Run.{Side, left, right}
+use Rattle.tanglegram.specs.declared.side.Side.{Side}
+use Rattle.tanglegram.specs.declared.side.Side.TheVariants.{Left as left, Right as right}
 use Rattle.tanglegram.specs.Table.{Table, Layouts, layout, put, crossings, seen, free}
 use Rattle.tanglegram.proofs.Lists.{each-perm}
 use Rattle.tanglegram.proofs.Tree.{leaves_once, rows_once}

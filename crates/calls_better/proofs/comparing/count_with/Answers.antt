@@ -1,7 +1,8 @@
 -- `count_with`: the copied order is one of the leaves 1 to n, and counted against the other side's order and the links it gives what the
 -- record counts with it.
 use Rattle.std.proofs.Common.{ap, arith, eq-eqb, length-take-le, ne_eqb, refl, sym, take, ◌-◌, ◌∙◌, ◌≡◌}
-use Rattle.tanglegram.specs.Run.{left, right, other}
+use Rattle.tanglegram.specs.declared.side.Side.TheVariants.{Left as left, Right as right}
+use Rattle.tanglegram.specs.Run.{other}
 use Rattle.tanglegram.proofs.Sides.{side-most, other-side}
 use Rattle.record_fields.specs.Fields.{parts}
 use Rattle.record_arrays.specs.Shown.{shown_order}

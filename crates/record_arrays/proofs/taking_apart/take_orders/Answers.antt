@@ -1,6 +1,6 @@
 -- `take_orders`: both orders and the links are those of the record.
 use Rattle.std.proofs.Common.{arith}
-use Rattle.tanglegram.specs.Run.{left, right}
+use Rattle.tanglegram.specs.declared.side.Side.TheVariants.{Left as left, Right as right}
 use Rattle.record_arrays.proofs.Apart.{order-taken, order_one, links-taken, links_one}
 use Rattle.record_arrays.proofs.taking_apart.take_orders.Goals as goal
 

@@ -1,16 +1,7 @@
-use Rattle.std.proofs.Common.{ap, arith, length-set, take_all, ◌∙◌}
-use lib.Seq.{sets}
-use Rattle.work_trees.proofs.Stores.{store_entry}
+-- `copied` copies the numbers of a list to the first places.
+use Rattle.std.proofs.Common.{sym}
+use Rattle.record_fields.proofs.Stores.{sets_front}
 use Rattle.record_fields.proofs.copying.copied.Goals as goal
 
-pub loop-i-preserved : goal.loop-i-preserved
-loop-i-preserved c =
-    let l = c.loop-i in
-    let stored = store_entry c.args.list.now c.args.out.now 0 l.i l.i 0 (omega arith) (omega arith) in
-    (omega arith, simp length-set l.invariant.1, rw l.invariant.2 stored)
-
 pub returns : goal.returns
-returns c =
-    let l = c.loop-i in
-    let xs = c.args.list.now in
-    l.invariant.2 ∙ ap (sets c.args.out.now 0) (take_all l.i xs (omega arith))
+returns c = rw c.copy_from_slice.ensures.after (sym (sets_front c.args.out.now c.args.list.now c.requires))

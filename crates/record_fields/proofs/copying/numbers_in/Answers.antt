@@ -12,10 +12,10 @@ pub loop-i-preserved : goal.loop-i-preserved
 loop-i-preserved c =
     let l = c.loop-i in
     let stored = store_two c.args.list.now c.args.out.now c.args.at l.i (omega arith) in
-    (omega arith, search rules, c.number_in.ensures ∙ rw l.invariant.2 stored)
+    (search rules, c.number_in.ensures ∙ rw l.invariant.1 stored)
 
 pub returns : goal.returns
 returns c =
     let l = c.loop-i in
     let a = c.args in
-    l.invariant.2 ∙ ap (λ r. sets a.out.now a.at (split r)) (take_all l.i a.list.now (omega arith))
+    l.invariant.1 ∙ ap (λ r. sets a.out.now a.at (split r)) (take_all l.i a.list.now (omega arith))

@@ -14,10 +14,10 @@ loop-i-preserved c =
     let l = c.loop-i in
     let f : ℕ → ℕ = λ i. two c.args.s.now (c.args.at + 2 * i) in
     let stored = store_made f c.args.out.now 0 l.i l.i (omega arith) in
-    (omega arith, simp length-set l.invariant.1, rw (l.invariant.2, c.number.ensures) stored)
+    (simp length-set l.invariant.0, rw (l.invariant.1, c.number.ensures) stored)
 
 pub returns : goal.returns
 returns c =
     let l = c.loop-i in
     let e : l.i ≡ c.args.m = omega arith in
-    rw e at l.invariant.2
+    rw e at l.invariant.1
