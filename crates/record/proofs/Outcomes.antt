@@ -5,14 +5,12 @@ use mathlib.Core.Logic.{◌≢◌}
 use mathlib.Core.List.{List}
 use borrow.Author.Tests.{eq-eqb, ne_eqb}
 use lib.ListN.{set}
-use Rattle.record_fields.specs.declared.refusal.Refusal.{Refusal}
-use Rattle.record.specs.declared.reading.Reading.TheVariants.{Accepted, Refused}
 use Rattle.record_fields.specs.Fields.{hold_at, hold_of, size_of, parts}
 use Rattle.record_fields.specs.Refusals.{refusal, set_hold_refusal}
-use Rattle.record_fields.specs.Refused.{refused}
+use Rattle.record_fields.specs.Refused.{NumberAndRow, refused}
 use Rattle.record_fields.specs.Told.{told_of}
 use Rattle.record_fields.proofs.Told.{told_none}
-use Rattle.record.specs.Calls.{Checks, reading_of, Reads, SetsHold}
+use Rattle.record.specs.Calls.{Accepted, Refused, Checks, reading_of, Reads, SetsHold}
 
 -- ---- two outcomes of which a part equals one and the same thing
 
@@ -22,10 +20,10 @@ equal_to_one p q = p ∙ sym q
 -- ---- reading
 
 module _ (s : List ℕ) {k : ℕ} (e : k ≡ refusal s) where
-  pub checked : {answer : Refusal} → answer ≡ told_of s k → Checks s answer
+  pub checked : {answer : NumberAndRow} → answer ≡ told_of s k → Checks s answer
   checked r = record { answers = r ∙ ap (told_of s) e }
 
-  pub read_refused : {answer : Refusal} → k ≢ 0 → answer ≡ told_of s k → Reads s (Refused answer)
+  pub read_refused : {answer : NumberAndRow} → k ≢ 0 → answer ≡ told_of s k → Reads s (Refused answer)
   unfolding reading_of
   read_refused h r = record { answers = rw (← e, ne_eqb k 0 h) (ap Refused r) }
 
@@ -36,8 +34,8 @@ module _ (s : List ℕ) {k : ℕ} (e : k ≡ refusal s) where
 -- ---- setting the hold
 
 module _ (s : List ℕ) (letter : ℕ) {k : ℕ} (e : k ≡ set_hold_refusal s letter) where
-  pub hold-refused : {answer : Refusal} → k ≢ 0 → answer ≡ told_of s k → SetsHold s letter answer s
+  pub hold-refused : {answer : NumberAndRow} → k ≢ 0 → answer ≡ told_of s k → SetsHold s letter answer s
   hold-refused h r = record { answers = r ∙ ap (told_of s) e; afterwards = rw (← e, ne_eqb k 0 h) refl }
 
-  pub hold-set : {answer : Refusal} → k ≡ 0 → answer ≡ refused 0 → SetsHold s letter answer (set s hold_at letter)
+  pub hold-set : {answer : NumberAndRow} → k ≡ 0 → answer ≡ refused 0 → SetsHold s letter answer (set s hold_at letter)
   hold-set z r = record { answers = r ∙ told_none (parts s) (sym e ∙ z); afterwards = rw (← e, eq-eqb k 0 z) refl }

@@ -1,22 +1,21 @@
-// The tests of a record's first eight bytes and its length, behind the refusals 1 to 6.
-ghost use Rattle.std.specs.Prelude.{◌≡◌, ◌≤◌, length};
-ghost use Rattle.record_fields.specs.Refusals.{heading_refusal, is_hold, is_mark, no_size};
+// The tests of a record's first eight bytes and its length, behind the refusals 1 to 6, and what they say.
+ghost use Rattle.std.specs.Prelude.{◌≡◌, ◌≤◌, length, OnOk};
+ghost use Rattle.record.specs.Heading.{HeadingSays};
+ghost use Rattle.record_fields.specs.Refusals.{heading_refusal, is_mark, no_size};
+ghost use Rattle.record_fields.specs.Refused.{refused, told};
 
 use record_fields::copying::number;
 use record_fields::fields::{
-    BOTH, LEFT, LEFT_ROWS_AT, MARK_TGP, MOST_LEAVES, NEITHER, RIGHT, VERSION_1, VERSION_AT,
-    hold_of, length_of, size_of,
+    HOLD_AT, LEFT_ROWS_AT, MARK_TGP, MOST_LEAVES, SIZE_AT, VERSION_1, VERSION_AT, length_of,
 };
-use record_fields::refusal::{HOLD, LENGTH, MARK, SHORT, SIZE, VERSION};
+use record_fields::hold::Hold;
+use record_fields::refusal::Refusal;
 
-// Whether x is one of the four letters.
-pub fn is_hold(x: u8) -> bool
-    ensures { result ≡ is_hold x }
-{
-    match x {
-        NEITHER | LEFT | RIGHT | BOTH => true,
-        _ => false,
-    }
+// What a record's heading says.
+#[derive(Clone, Copy, Debug, PartialEq, Eq)]
+pub struct Header {
+    pub hold: Hold,
+    pub n: u16,
 }
 
 // Whether bytes 0 to 2 are `TGP`.
@@ -24,47 +23,37 @@ fn is_mark(s: &[u8]) -> bool
     requires { 8 ≤ length s.now }
     ensures { result ≡ is_mark s.now }
 {
-    if s[0] != MARK_TGP[0] {
-        return false;
-    }
-    if s[1] != MARK_TGP[1] {
-        return false;
-    }
-    s[2] == MARK_TGP[2]
+    s[0] == MARK_TGP[0] && s[1] == MARK_TGP[1] && s[2] == MARK_TGP[2]
 }
 
 // Whether n is 0 or above 512.
 pub fn no_size(n: u16) -> bool
     ensures { result ≡ no_size n }
 {
-    if n == 0 {
-        return true;
-    }
-    MOST_LEAVES < n
+    n == 0 || MOST_LEAVES < n
 }
 
-// 1 to 6 for the first eight bytes and the length, or 0.
-pub fn heading_number(s: &[u8]) -> u16
-    ensures { result ≡ heading_refusal s.now }
+// Tests the first eight bytes and the length.
+pub fn heading(s: &[u8]) -> Result<Header, Refusal>
+    ensures tells { told result ≡ refused (heading_refusal s.now) }
+    ensures says { OnOk result (λ h. HeadingSays s.now h) }
 {
     if s.len() < LEFT_ROWS_AT {
-        return SHORT;
+        return Err(Refusal::Short);
     }
     if !is_mark(s) {
-        return MARK;
+        return Err(Refusal::Mark);
     }
     if number(s, VERSION_AT) != VERSION_1 {
-        return VERSION;
+        return Err(Refusal::Version);
     }
-    if !is_hold(hold_of(s)) {
-        return HOLD;
-    }
-    let n = size_of(s);
+    let hold = Hold::try_from(s[HOLD_AT])?;
+    let n = number(s, SIZE_AT);
     if no_size(n) {
-        return SIZE;
+        return Err(Refusal::Size);
     }
     if s.len() != length_of(n) {
-        return LENGTH;
+        return Err(Refusal::Length);
     }
-    0
+    Ok(Header { hold, n })
 }

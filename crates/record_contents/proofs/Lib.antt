@@ -1,2 +1,4 @@
 pub mod Marks
 pub mod RowsAt
+pub mod Layouts
+pub mod Found

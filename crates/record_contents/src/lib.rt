@@ -4,4 +4,5 @@
 mod links;
 mod testing;
 
-pub use testing::{bad_row_at, bad_row_in, contents_number, is_layout, one_to_one_in};
+pub use links::one_to_one_in;
+pub use testing::{bad_row_in, contents, is_layout};

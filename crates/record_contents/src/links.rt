@@ -1,16 +1,15 @@
-// Whether links are one-to-one: each number from 1 to n stands among the n links. What was seen of them is marked in
-// eight words, where place q stands for the number q + 1.
-ghost use Rattle.std.specs.Prelude.{◌≡◌, ◌+◌, ◌*◌, ◌≤◌, length, take};
-ghost use Rattle.record_contents.specs.Marks.{marking, marking_all};
+// Whether links are one-to-one: each number from 1 to n stands among the n links. What was seen of them is marked: place
+// q stands for the number q + 1.
+ghost use Rattle.std.specs.Prelude.{◌≡◌, ◌+◌, ◌*◌, ◌≤◌, length};
+ghost use Rattle.record_contents.specs.Marks.{marking};
 ghost use Rattle.record_fields.specs.Fields.{most_leaves, numbers};
 ghost use Rattle.record_fields.specs.Refusals.{one_to_one};
 
 use record_fields::copying::number;
-use record_fields::fields::LEAVES;
-use work_seen_places::{all_before, mark};
+use work_seen_places::Seen;
 
 // Marks x, if it is from 1 to n.
-fn mark_link(seen: &mut [u64; 8], x: u16, n: usize)
+fn mark_link(seen: &mut Seen, x: u16, n: usize)
     requires { n ≤ most_leaves }
     ensures { seen.new ≡ marking n seen.old x }
 {
@@ -20,39 +19,31 @@ fn mark_link(seen: &mut [u64; 8], x: u16, n: usize)
     if n < x as usize {
         return;
     }
-    mark(seen, x as usize - 1);
+    seen.mark(x as usize - 1);
 }
 
-// Marks each of the first n links that is from 1 to n.
-fn mark_links(links: &[u16; LEAVES], n: usize, seen: &mut [u64; 8])
-    requires { (n ≤ most_leaves) × (n ≤ length links.now) }
-    ensures { seen.new ≡ marking_all n seen.old (take n links.now) }
-{
-    let mut i = 0;
-    while i < n {
-        mark_link(seen, links[i], n);
-        i += 1;
-    }
-}
-
-// Marks each of the n links from place `at` of a record on that is from 1 to n.
-pub fn mark_links_at(s: &[u8], at: usize, n: usize, seen: &mut [u64; 8])
+// Whether the n links from place `at` of a record on are one-to-one.
+pub fn one_to_one_at(s: &[u8], at: usize, n: u16) -> bool
     requires { (n ≤ most_leaves) × (at + 2 * n ≤ length s.now) }
-    ensures { seen.new ≡ marking_all n seen.old (numbers s.now at n) }
+    ensures { result ≡ one_to_one n (numbers s.now at n) }
 {
-    let mut i = 0;
-    while i < n {
-        mark_link(seen, number(s, at + 2 * i), n);
-        i += 1;
+    let most = n as usize;
+    let mut seen = Seen::new();
+    for i in 0..most {
+        mark_link(&mut seen, number(s, at + 2 * i), most);
     }
+    seen.all_before(most)
 }
 
-// Whether the first n links are one-to-one on 1 to n.
-pub fn one_to_one(links: &[u16; LEAVES], n: usize) -> bool
-    requires { (n ≤ most_leaves) × (n ≤ length links.now) }
-    ensures { result ≡ one_to_one n (take n links.now) }
+// Whether the n links of a list are one-to-one.
+pub fn one_to_one_in(list: &[u16], n: u16) -> bool
+    requires { (n ≤ most_leaves) × (length list.now ≡ n) }
+    ensures { result ≡ one_to_one n list.now }
 {
-    let mut seen = [0u64; 8];
-    mark_links(links, n, &mut seen);
-    all_before(&seen, n)
+    let most = n as usize;
+    let mut seen = Seen::new();
+    for x in list {
+        mark_link(&mut seen, *x, most);
+    }
+    seen.all_before(most)
 }

@@ -1,104 +1,75 @@
 // The tests of a record's contents, behind the refusals 7 to 10, each on bytes or on numbers.
 ghost use Rattle.std.specs.Prelude.{◌≡◌, ◌+◌, ◌-◌, ◌*◌, ◌≤◌, length};
 ghost use Rattle.work_trees.specs.Rows.{upper, lower};
-ghost use Rattle.work_tree_rule.specs.Rule.{bad_row};
+ghost use Rattle.work_tree_rule.specs.Rule.{bad_row, row_found};
 ghost use Rattle.record_fields.specs.Fields.{most_leaves, numbers, parts_of, Sized};
-ghost use Rattle.record_fields.specs.Refusals.{contents_refusal, is_layout, one_to_one};
+ghost use Rattle.record_fields.specs.Refusals.{is_layout};
+ghost use Rattle.record_fields.specs.Refused.{told};
+ghost use Rattle.record_fields.specs.Told.{ToldContents};
 
-use crate::links::{mark_links_at, one_to_one};
-use record_fields::copying::{copied, number};
+use crate::links::one_to_one_at;
+use record_fields::copying::number;
 use record_fields::fields::{
-    LEAVES, LEFT_ROWS_AT, OBJECTS, left_layout_at, links_at, right_layout_at, right_rows_at,
+    LEFT_ROWS_AT, left_layout_at, links_at, right_layout_at, right_rows_at,
 };
-use record_fields::refusal::{LAYOUT, LEFT_ROW, LINKS, RIGHT_ROW};
-use work_seen_places::all_before;
-use work_tree_rule::{bad_row, row_breaks};
+use record_fields::refusal::Refusal;
+use work_tree_rule::{Used, bad_row};
 
-// The lowest of the n-1 rows from place `at` on that breaks the tree rule, or 0.
-pub fn bad_row_at(s: &[u8], at: usize, n: u16) -> u16
+// The lowest of the n-1 rows from place `at` on that breaks the tree rule, if one does.
+fn bad_row_at(s: &[u8], at: usize, n: u16) -> Option<u16>
     requires { (1 ≤ n) × (n ≤ most_leaves) × (at + 4 * (n - 1) ≤ length s.now) }
     ensures { result ≡
-        bad_row
+        row_found (bad_row
         n
         (upper (numbers s.now at (2 * (n - 1))))
-        (lower (numbers s.now at (2 * (n - 1)))) }
+        (lower (numbers s.now at (2 * (n - 1))))) }
 {
-    let size = n as usize;
-    let mut marks = [0u8; OBJECTS];
-    let mut i = 1;
-    while i < size {
-        let row = at + 4 * (i - 1);
-        if row_breaks(&mut marks, number(s, row), number(s, row + 2), size + i) {
-            return i as u16;
+    let mut used = Used::new();
+    for i in 1..n {
+        let row = at + 4 * (i as usize - 1);
+        if used.row_breaks(number(s, row), number(s, row + 2), n as usize + i as usize) {
+            return Some(i);
         }
-        i += 1;
     }
-    0
+    None
 }
 
-// The lowest of the n-1 rows of a list that breaks the tree rule, or 0.
-pub fn bad_row_in(list: &[u16], n: u16) -> u16
+// The lowest of the n-1 rows of a list that breaks the tree rule, if one does.
+pub fn bad_row_in(list: &[u16], n: u16) -> Option<u16>
     requires { (1 ≤ n) × (n ≤ most_leaves) × (length list.now ≡ 2 * (n - 1)) }
-    ensures { result ≡ bad_row n (upper list.now) (lower list.now) }
+    ensures { result ≡ row_found (bad_row n (upper list.now) (lower list.now)) }
 {
     bad_row(list, n as usize)
-}
-
-// Whether the n links from place `at` on are one-to-one.
-fn one_to_one_at(s: &[u8], at: usize, n: u16) -> bool
-    requires { (n ≤ most_leaves) × (at + 2 * n ≤ length s.now) }
-    ensures { result ≡ one_to_one n (numbers s.now at n) }
-{
-    let mut seen = [0u64; 8];
-    mark_links_at(s, at, n as usize, &mut seen);
-    all_before(&seen, n as usize)
-}
-
-// Whether the n links of a list are one-to-one.
-pub fn one_to_one_in(list: &[u16], n: u16) -> bool
-    requires { (n ≤ most_leaves) × (length list.now ≡ n) }
-    ensures { result ≡ one_to_one n list.now }
-{
-    let mut links = [0u16; LEAVES];
-    copied(list, &mut links);
-    one_to_one(&links, n as usize)
 }
 
 // Whether no byte is above 3.
 pub fn is_layout(bytes: &[u8]) -> bool
     ensures { result ≡ is_layout bytes.now }
 {
-    let mut i = 0;
-    while i < bytes.len() {
-        if 3 < bytes[i] {
-            return false;
-        }
-        i += 1;
-    }
-    true
+    bytes.iter().all(|x| *x <= 3)
 }
 
-// 7 to 10 for the parts of a record over n leaves, or 0.
-pub fn contents_number(s: &[u8], n: u16) -> u16
+// Tests the parts of a record over n leaves.
+pub fn contents(s: &[u8], n: u16) -> Result<(), Refusal>
     requires { Sized s.now n }
-    ensures { result ≡ contents_refusal (parts_of s.now n) }
+    ensures { ToldContents (parts_of s.now n) (told result) }
 {
-    if bad_row_at(s, LEFT_ROWS_AT, n) != 0 {
-        return LEFT_ROW;
+    if let Some(row) = bad_row_at(s, LEFT_ROWS_AT, n) {
+        return Err(Refusal::LeftRow(row));
     }
-    if bad_row_at(s, right_rows_at(n), n) != 0 {
-        return RIGHT_ROW;
+    if let Some(row) = bad_row_at(s, right_rows_at(n), n) {
+        return Err(Refusal::RightRow(row));
     }
     if !one_to_one_at(s, links_at(n), n) {
-        return LINKS;
+        return Err(Refusal::Links);
     }
     let left = left_layout_at(n);
     let right = right_layout_at(n);
     if !is_layout(&s[left..right]) {
-        return LAYOUT;
+        return Err(Refusal::Layout);
     }
     if !is_layout(&s[right..]) {
-        return LAYOUT;
+        return Err(Refusal::Layout);
     }
-    0
+    Ok(())
 }

@@ -1,10 +1,12 @@
-use Rattle.std.proofs.Common.{arith, ◌∙◌}
+use Rattle.std.proofs.Common.{ap, arith, ◌∙◌}
+use Rattle.work_tree_rule.specs.Rule.{row_found}
+use Rattle.work_tree_rule.proofs.Rule.{row_found-some}
 use Rattle.work_tree_rule.proofs.Marks.{checked_none, checked_all, bad_here, checked_more}
 use Rattle.record_contents.proofs.RowsAt.{upper-at, lower-at}
 use Rattle.record_contents.proofs.testing.bad_row_at.Goals as goal
 
 pub loop-i-init : goal.loop-i-init
-loop-i-init c = checked_none _ _ _
+loop-i-init c = rw c.new-used.ensures (checked_none _ _ _)
 
 pub returns-then-row_breaks : goal.returns-then-row_breaks
 returns-then-row_breaks c =
@@ -14,7 +16,8 @@ returns-then-row_breaks c =
     let here = c.loop-i-test.true in
     let is-upper = c.number.ensures ∙ upper-at a.s.now a.at a.n l.i l.invariant.from here _ (omega arith) in
     let is-lower = c.number-in-loop-i.ensures ∙ lower-at a.s.now a.at a.n l.i l.invariant.from here _ (omega arith) in
-    bad_here _ _ _ _ _ l.invariant here c.requires.1 _ _ is-upper is-lower _ tested.ensures.0 c.if-row_breaks.true
+    let bad = bad_here _ _ _ _ _ l.invariant here c.requires.1 _ _ is-upper is-lower _ tested.ensures.0 c.if-row_breaks.true in
+    row_found-some l.i l.invariant.from ∙ ap row_found bad
 
 pub loop-i-preserved : goal.loop-i-preserved
 loop-i-preserved c =
@@ -28,4 +31,4 @@ loop-i-preserved c =
     tested.ensures.1 c.if-row_breaks.false
 
 pub returns : goal.returns
-returns c = checked_all _ _ _ _ _ c.loop-i-test.false c.loop-i.invariant
+returns c = ap row_found (checked_all _ _ _ _ _ c.loop-i-test.false c.loop-i.invariant)

@@ -9,7 +9,4 @@ use Rattle.record_contents.proofs.testing.bad_row_at.Given as goal
 abbrev pub invariant-loop-i : goal.invariant-loop-i
 invariant-loop-i l =
     let rows = numbers l.s l.at (2 * (l.n - 1)) in
-    Checked l.n (upper rows) (lower rows) l.marks l.i
-
-abbrev pub decreases-loop-i : goal.decreases-loop-i
-decreases-loop-i l = l.n - l.i
+    Checked l.n (upper rows) (lower rows) l.used l.i

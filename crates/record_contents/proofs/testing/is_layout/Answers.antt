@@ -1,23 +1,13 @@
-use Rattle.std.proofs.Common.{arith, sym, take_all}
-use Rattle.record_fields.proofs.Tests.{no_bytes, layout-more, layout_fails}
+-- `is_layout`: each byte is at most 3.
+use Rattle.std.proofs.Common.{rules, tests, ◌∙◌}
+use Rattle.std.proofs.lemmas.Iterator.{YieldsList-from_slice}
+use Rattle.std.proofs.lemmas.Iterator.Search.{all_from_yields_List}
+use Rattle.std.specs.Prelude.{leb}
+use Rattle.record_contents.proofs.Layouts.{layout-all}
 use Rattle.record_contents.proofs.testing.is_layout.Goals as goal
-
-pub loop-i-init : goal.loop-i-init
-loop-i-init c = (omega arith, no_bytes)
-
-pub returns-then-bytes-i-gt3 : goal.returns-then-bytes-i-gt3
-returns-then-bytes-i-gt3 c =
-    let s = c.args in
-    sym (layout_fails s.bytes.now c.loop-i.i (omega arith) (omega arith))
-
-pub loop-i-preserved : goal.loop-i-preserved
-loop-i-preserved c =
-    let s = c.args in
-    let l = c.loop-i in
-    (omega arith, layout-more s.bytes.now l.i (omega arith) l.invariant.1 c.if-bytes-i-gt3.false)
 
 pub returns : goal.returns
 returns c =
-    let s = c.args in
-    let l = c.loop-i in
-    sym (rw (take_all l.i s.bytes.now (omega arith)) at l.invariant.1)
+    all_from_yields_List (λ x. leb x 3) _ _ c.all.result c.all.ensures.ran (YieldsList-from_slice c.args.bytes.now cc)
+    (λ x b q k. search (rules, tests))
+    ∙ layout-all c.args.bytes.now
