@@ -1,5 +1,5 @@
 // The tests of a record's first eight bytes and its length, behind the refusals 1 to 6, and what they say.
-ghost use Rattle.std.specs.Prelude.{◌≡◌, ◌≤◌, length, OnOk};
+ghost use Rattle.std.specs.Prelude.{◌≡◌, ◌≤◌, length, IfOk};
 ghost use Rattle.record.specs.Heading.{HeadingSays};
 ghost use Rattle.record_fields.specs.Refusals.{heading_refusal, is_mark, no_size};
 ghost use Rattle.record_fields.specs.Refused.{refused, told};
@@ -23,7 +23,7 @@ fn is_mark(s: &[u8]) -> bool
     requires { 8 ≤ length s.now }
     ensures { result ≡ is_mark s.now }
 {
-    s[0] == MARK_TGP[0] && s[1] == MARK_TGP[1] && s[2] == MARK_TGP[2]
+    s.starts_with(&MARK_TGP)
 }
 
 // Whether n is 0 or above 512.
@@ -36,7 +36,7 @@ pub fn no_size(n: u16) -> bool
 // Tests the first eight bytes and the length.
 pub fn heading(s: &[u8]) -> Result<Header, Refusal>
     ensures tells { told result ≡ refused (heading_refusal s.now) }
-    ensures says { OnOk result (λ h. HeadingSays s.now h) }
+    ensures says { IfOk result (λ h. HeadingSays s.now h) }
 {
     if s.len() < LEFT_ROWS_AT {
         return Err(Refusal::Short);

@@ -1,11 +1,14 @@
 -- What a refused call answers and keeps, and what an accepted one does.
-use Prim.Native.Nat.{ℕ}
-use mathlib.Core.Path.{◌≡◌, refl}
+use Prim.Native.Nat.{ℕ, ◌≤◌}
+use mathlib.Core.Path.{◌≡◌, refl, ap, ◌∙◌}
 use mathlib.Core.Logic.{◌≢◌}
 use mathlib.Core.List.{List, ◌++◌}
+use native.Mathlib.Omega.{arith}
 use borrow.Author.Tests.{eq-eqb, ne_eqb}
 use lib.ListN.{length, drop}
-use Rattle.record_fields.specs.Refused.{lent, or_zero}
+use Rattle.record_fields.specs.declared.refusal.Refusal.{Refusal}
+use Rattle.record_fields.specs.declared.refusal.Refusal.TheVariants as refusal
+use Rattle.record_fields.specs.Refused.{NumberAndRow, refused_row, number_of, row_of, lent, or_zero}
 
 pub lent-refused : {A : Type 0} (k : ℕ) (part found : List A) → k ≢ 0 → found ≡ lent k part found
 lent-refused k part found h = rw (ne_eqb k 0 h) refl
@@ -18,3 +21,36 @@ zero-refused k x h = rw (ne_eqb k 0 h) refl
 
 pub zero-accepted : (k x : ℕ) → k ≡ 0 → x ≡ or_zero k x
 zero-accepted k x e = rw (eq-eqb k 0 e) refl
+
+-- no refusal has the number 0
+pub some-number : (r : Refusal) → 1 ≤ number_of r
+some-number refusal.Short = omega arith
+some-number refusal.Mark = omega arith
+some-number refusal.Version = omega arith
+some-number refusal.Hold = omega arith
+some-number refusal.Size = omega arith
+some-number refusal.Length = omega arith
+some-number (refusal.LeftRow i) = omega arith
+some-number (refusal.RightRow i) = omega arith
+some-number refusal.Links = omega arith
+some-number refusal.Layout = omega arith
+some-number refusal.Held = omega arith
+some-number refusal.Allowance = omega arith
+some-number refusal.Side = omega arith
+some-number refusal.Room = omega arith
+some-number refusal.Row = omega arith
+some-number refusal.Order = omega arith
+some-number refusal.Hands = omega arith
+some-number refusal.Grammar = omega arith
+some-number refusal.Leaves = omega arith
+some-number refusal.Entry = omega arith
+some-number refusal.Twice = omega arith
+some-number refusal.Pinned = omega arith
+some-number refusal.AgainstPin = omega arith
+
+pub refused-some : (r : Refusal) → number_of r ≢ 0
+refused-some r e = let some = some-number r in omega arith
+
+-- so what is told of one has another
+pub refuses : (r : Refusal) {k row : ℕ} → refused_row (number_of r) (row_of r) ≡ refused_row k row → k ≢ 0
+refuses r e z = refused-some r (ap (λ (a : NumberAndRow). a.number) e ∙ z)

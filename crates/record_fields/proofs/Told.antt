@@ -117,7 +117,7 @@ alone_0 = record { alone = refl }
 
 module _ (s : List ℕ) where
   -- the heading's numbers have no row
-  heading_alone : Alone (heading_refusal s)
+  pub heading_alone : Alone (heading_refusal s)
   unfolding heading_refusal
   heading_alone =
       alone_when (ltb (length s) 8) 1 refl (alone_when (not (is_mark s)) 2 refl (alone_when (not (eqb (two s version_at) 1)) 3 refl
