@@ -9,11 +9,12 @@ use native.Mathlib.Decide.{ℕ_discrete}
 use native.Mathlib.Omega.{arith}
 use borrow.Author.Tests.{leb-false, lt-leb, eqb-false, ne_eqb}
 use lib.Dec.{leb, eqb}
+use Rattle.std.proofs.Common.{Some}
 use Rattle.tanglegram.proofs.Bools.{or_neither}
 use Rattle.tanglegram.specs.Lists.{Each, range}
 use Rattle.tanglegram.specs.Tree.{used, Row, Rule}
 use Rattle.work_trees.specs.Rows.{upper, lower, size, GoodRows}
-use Rattle.work_tree_rule.specs.Rule.{among, first, wrong, breaks, bad_row, Lowest}
+use Rattle.work_tree_rule.specs.Rule.{among, first, wrong, breaks, bad_row, row_found, Lowest}
 use Rattle.work_trees.proofs.Objects.{used_cong}
 
 -- ---- tests
@@ -160,3 +161,8 @@ module _ (n : ℕ) (up low up' low' : ℕ → ℕ) (same : (i : ℕ) → 1 ≤ i
 -- a row array of 1 to 512 leaves with no bad row is good
 pub no_bad_row-good : (T : List ℕ) → 1 ≤ size T → size T ≤ 512 → bad_row (size T) (upper T) (lower T) ≡ 0 → GoodRows T
 no_bad_row-good T h k e = record { some = h; most = k; rule = (bad_row-none (size T) (upper T) (lower T)).0 e }
+
+-- the row that a number from 1 on tells of
+pub row_found-some : (i : ℕ) → 1 ≤ i → Some i ≡ row_found i
+row_found-some zero h = absurd (omega arith)
+row_found-some (suc i) h = refl

@@ -1,5 +1,5 @@
 -- The tree rule as a test, row by row: which row breaks it first. Row i makes object n + i of the objects up i and low i.
-use Rattle.std.specs.Prelude.{ℕ, pred, ◌+◌, ◌≤◌, ◌<◌, Bool, false, cond, ◌||◌, List, [], ◌∷◌, leb, eqb}
+use Rattle.std.specs.Prelude.{ℕ, zero, suc, pred, ◌+◌, ◌≤◌, ◌<◌, Bool, false, cond, ◌||◌, List, [], ◌∷◌, leb, eqb, Option, None, Some}
 use Rattle.tanglegram.specs.Lists.{range}
 use Rattle.tanglegram.specs.Tree.{used, Row}
 
@@ -32,3 +32,8 @@ module _ (n : ℕ) (up low : ℕ → ℕ) where
     pub is_row : (1 ≤ b) × (b < n)
     pub broken : Row n up low b → ⊥
     pub earlier : (i : ℕ) → 1 ≤ i → i < b → Row n up low i
+
+-- The row that a number tells of, where 0 tells of none.
+abbrev pub row_found : ℕ → Option ℕ
+row_found zero = None
+row_found (suc k) = Some (suc k)

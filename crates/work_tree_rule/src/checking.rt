@@ -1,56 +1,69 @@
 // The tree rule: a row tested by marks at the objects that earlier rows use; the lowest row of a list that breaks it.
-ghost use Rattle.std.specs.Prelude.{◌≡◌, cond, ◌-◌, ◌*◌, ◌≤◌, length, set};
+ghost use Rattle.std.specs.Prelude.{◌≡◌, cond, ◌-◌, ◌*◌, ◌≤◌, length, replicate, set};
 ghost use Rattle.work_trees.specs.Rows.{upper, lower};
 ghost use Rattle.work_tree_rule.specs.Marks.{refused_by, broken_by};
-ghost use Rattle.work_tree_rule.specs.Rule.{bad_row};
+ghost use Rattle.work_tree_rule.specs.Rule.{bad_row, row_found};
 
-// Whether the row that makes object `made` can't have obj for an entry: it is 0, or not below made, or marked as used.
-fn refused(marks: &[u8; 1024], obj: u16, made: usize) -> bool
-    requires { made ≤ 1024 }
-    ensures { result ≡ refused_by marks.now made obj }
-{
-    if obj == 0 {
-        return true;
-    }
-    let place = obj as usize;
-    if made <= place {
-        return true;
-    }
-    marks[place] != 0
+use std::marker::Model;
+
+// Marks at the objects that rows use. Statements speak of the list of them, 1 at a used object and 0 elsewhere.
+#[derive(Drop)]
+pub struct Used {
+    marks: [bool; 1024],
 }
 
-// Whether the row that makes object `made` of a and b breaks the rule. If it keeps it, both are marked as used.
-pub fn row_breaks(marks: &mut [u8; 1024], a: u16, b: u16, made: usize) -> bool
-    requires { made ≤ 1024 }
-    ensures { (result ≡ broken_by marks.old made a b)
-        × (marks.new ≡ cond result marks.old (set (set marks.old b 1) a 1)) }
-{
-    if a == b {
-        return true;
-    }
-    if refused(marks, a, made) {
-        return true;
-    }
-    if refused(marks, b, made) {
-        return true;
-    }
-    marks[b as usize] = 1;
-    marks[a as usize] = 1;
-    false
+impl Model for Used {
+    ghost use Rattle.std.specs.Prelude.{ℕ, List, map};
+    ghost use Rattle.tanglegram.specs.Lists.{bit};
+
+    ghost Value = { List ℕ };
+
+    ghost view = { λ u. map bit u.marks };
 }
 
-// The lowest of the n-1 rows of a list that breaks the tree rule, or 0 where none does.
-pub fn bad_row(rows: &[u16], n: usize) -> u16
-    requires { (1 ≤ n) × (n ≤ 512) × (length rows.now ≡ 2 * (n - 1)) }
-    ensures { result ≡ bad_row n (upper rows.now) (lower rows.now) }
-{
-    let mut marks = [0u8; 1024];
-    let mut i = 1;
-    while i < n {
-        if row_breaks(&mut marks, rows[2 * i - 2], rows[2 * i - 1], n + i) {
-            return i as u16;
+impl Used {
+    // No object is used.
+    pub fn new() -> Self
+        ensures { result ≡ replicate 1024 0 }
+    {
+        Used {
+            marks: [false; 1024],
         }
-        i += 1;
     }
-    0
+
+    // Whether the row that makes object `made` can't have obj for an entry: it is 0, or not below made, or marked.
+    fn refuses(&self, obj: u16, made: usize) -> bool
+        requires { made ≤ 1024 }
+        ensures { result ≡ refused_by self.now made obj }
+    {
+        obj == 0 || made <= usize::from(obj) || self.marks[usize::from(obj)]
+    }
+
+    // Whether the row that makes object `made` of a and b breaks the rule. If it keeps it, both are marked as used.
+    pub fn row_breaks(&mut self, a: u16, b: u16, made: usize) -> bool
+        requires { made ≤ 1024 }
+        ensures { (result ≡ broken_by self.old made a b)
+            × (self.new ≡ cond result self.old (set (set self.old b 1) a 1)) }
+    {
+        if a == b || self.refuses(a, made) || self.refuses(b, made) {
+            return true;
+        }
+        self.marks[usize::from(b)] = true;
+        self.marks[usize::from(a)] = true;
+        false
+    }
+}
+
+// The lowest of the n-1 rows of a list that breaks the tree rule, if one does.
+pub fn bad_row(rows: &[u16], n: usize) -> Option<u16>
+    requires { (1 ≤ n) × (n ≤ 512) × (length rows.now ≡ 2 * (n - 1)) }
+    ensures { result ≡ row_found (bad_row n (upper rows.now) (lower rows.now)) }
+{
+    let mut used = Used::new();
+    for i in 1..n {
+        if used.row_breaks(rows[2 * i - 2], rows[2 * i - 1], n + i) {
+            return Some(i as u16);
+        }
+    }
+    None
 }

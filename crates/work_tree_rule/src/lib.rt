@@ -3,4 +3,4 @@
 
 mod checking;
 
-pub use checking::{bad_row, row_breaks};
+pub use checking::{Used, bad_row};

@@ -1,10 +1,12 @@
-use Rattle.std.proofs.Common.{ap, get_or}
+use Rattle.std.proofs.Common.{ap, get_or, ◌∙◌}
 use Rattle.work_trees.proofs.RowArray.{upper-place, lower-place}
+use Rattle.work_tree_rule.specs.Rule.{row_found}
+use Rattle.work_tree_rule.proofs.Rule.{row_found-some}
 use Rattle.work_tree_rule.proofs.Marks.{checked_none, checked_all, bad_here, checked_more}
 use Rattle.work_tree_rule.proofs.checking.bad_row.Goals as goal
 
 pub loop-i-init : goal.loop-i-init
-loop-i-init c = checked_none _ _ _
+loop-i-init c = rw c.new-used.ensures (checked_none _ _ _)
 
 pub returns-then-row_breaks : goal.returns-then-row_breaks
 returns-then-row_breaks c =
@@ -12,7 +14,8 @@ returns-then-row_breaks c =
     let l = c.loop-i in
     let at-upper = ap (λ p. get_or c.args.rows.now p 0) (upper-place l.i l.invariant.from) in
     let at-lower = ap (λ p. get_or c.args.rows.now p 0) (lower-place l.i l.invariant.from) in
-    bad_here _ _ _ _ _ l.invariant c.loop-i-test.true c.requires.1 _ _ at-upper at-lower _ tested.ensures.0 c.if-row_breaks.true
+    let here = bad_here _ _ _ _ _ l.invariant c.loop-i-test.true c.requires.1 _ _ at-upper at-lower _ tested.ensures.0 c.if-row_breaks.true in
+    row_found-some l.i l.invariant.from ∙ ap row_found here
 
 pub loop-i-preserved : goal.loop-i-preserved
 loop-i-preserved c =
@@ -24,4 +27,4 @@ loop-i-preserved c =
     tested.ensures.1 c.if-row_breaks.false
 
 pub returns : goal.returns
-returns c = checked_all _ _ _ _ _ c.loop-i-test.false c.loop-i.invariant
+returns c = ap row_found (checked_all _ _ _ _ _ c.loop-i-test.false c.loop-i.invariant)

@@ -1,12 +1,8 @@
 -- `bad_row` meets its contract. The loop's invariant: the rows before row i keep the rule and have their entries marked, and
 -- the bad row is the first of those from row i on.
-use Rattle.std.proofs.Common.{◌-◌}
 use Rattle.work_trees.specs.Rows.{upper, lower}
 use Rattle.work_tree_rule.proofs.Marks.{Checked}
 use Rattle.work_tree_rule.proofs.checking.bad_row.Given as goal
 
 abbrev pub invariant-loop-i : goal.invariant-loop-i
-invariant-loop-i l = Checked l.n (upper l.rows) (lower l.rows) l.marks l.i
-
-abbrev pub decreases-loop-i : goal.decreases-loop-i
-decreases-loop-i l = l.n - l.i
+invariant-loop-i l = Checked l.n (upper l.rows) (lower l.rows) l.used l.i
