@@ -14,8 +14,8 @@ returns-then-row_breaks c =
     let l = c.loop-i in
     let at-upper = ap (λ p. get_or c.args.rows.now p 0) (upper-place l.i l.invariant.from) in
     let at-lower = ap (λ p. get_or c.args.rows.now p 0) (lower-place l.i l.invariant.from) in
-    let here = bad_here _ _ _ _ _ l.invariant c.loop-i-test.true c.requires.1 _ _ at-upper at-lower _ tested.ensures.0 c.if-row_breaks.true in
-    row_found-some l.i l.invariant.from ∙ ap row_found here
+    row_found-some l.i l.invariant.from ∙ ap row_found (bad_here _ _ _ _ _ l.invariant c.loop-i-test.true c.requires.1 _ _
+    at-upper at-lower _ tested.ensures.0 c.if-row_breaks.true)
 
 pub loop-i-preserved : goal.loop-i-preserved
 loop-i-preserved c =
