@@ -57,9 +57,9 @@ impl Used {
 
 // The lowest of n-1 rows that breaks the tree rule, if one does: rows over n leaves, flat, upper then lower.
 pub fn bad_row<T: Numbers>(rows: &T, n: usize) -> Option<u16>
-    requires { (1 ≤ n) × (n ≤ 512) × (length (T.numbers rows.now) ≡ 2 * (n - 1)) }
+    requires { (1 ≤ n) × (n ≤ 512) × (length (T.list rows.now) ≡ 2 * (n - 1)) }
     ensures { result ≡
-        row_found (bad_row n (upper (T.numbers rows.now)) (lower (T.numbers rows.now))) }
+        row_found (bad_row n (upper (T.list rows.now)) (lower (T.list rows.now))) }
 {
     let mut used = Used::new();
     for i in 1..n {

@@ -2,17 +2,17 @@
 ghost use Rattle.std.specs.Prelude.{◌≡◌, ◌<◌, ℕ, List, length, get_or};
 
 pub trait Numbers {
-    // The numbers, in order.
-    ghost numbers: { Self → List ℕ };
+    // The list of them.
+    ghost list: { Self → List ℕ };
 
     // The number at place k, counted from 0.
     fn number(&self, k: usize) -> u16
-        requires { k < length (numbers self.now) }
-        ensures { result ≡ get_or (numbers self.now) k 0 };
+        requires { k < length (list self.now) }
+        ensures { result ≡ get_or (list self.now) k 0 };
 }
 
 impl Numbers for &[u16] {
-    ghost numbers = { λ list. list.now };
+    ghost list = { λ xs. xs.now };
 
     fn number(&self, k: usize) -> u16 {
         self[k]
