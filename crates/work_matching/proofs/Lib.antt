@@ -1,4 +1,3 @@
 pub mod Reading
-pub mod Prefix
 pub mod Matched
 pub mod RowPins

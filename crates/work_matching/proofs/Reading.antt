@@ -1,10 +1,9 @@
 -- The layout read off an order, row by row: at each object the place of its uppermost leaf is known from its row's upper entry.
-use Prim.Native.Nat.{ℕ, suc, pred, ◌+◌, ◌-◌, ◌*◌, ◌≤◌, ◌<◌}
+use Prim.Native.Nat.{ℕ, suc, pred, ◌+◌, ◌*◌, ◌≤◌, ◌<◌}
 use mathlib.Core.Path.{◌≡◌, refl, sym, ap, ap₂, ◌∙◌}
 use mathlib.Core.List.Permᴰ
 use mathlib.Core.List.{List}
 use native.Mathlib.Decide.{ℕ_discrete}
-use native.Mathlib.Numerals.{sub-one}
 use native.Mathlib.Omega.{arith}
 use lib.Dec.{ltb}
 use lib.ListN.{length, get_or, set, length-set}
@@ -16,7 +15,6 @@ use Rattle.tanglegram.proofs.Lists.{each-mem, each-perm, distinct_perm, mem-perm
 use Rattle.tanglegram.proofs.Tree.{object-leaf, object-fork, rows-each, leaves_once, rows_once}
 use Rattle.tanglegram.proofs.Write.{length-write, write-written, written-rows}
 use Rattle.work_trees.specs.Rows.{upper, lower, size, object_of, tree_of, GoodRows}
-use Rattle.work_trees.proofs.RowArray.{upper-place, lower-place}
 
 -- the place of an object's uppermost leaf
 abbrev pub top_place : List ℕ → List ℕ → ℕ → ℕ
@@ -60,54 +58,55 @@ module _ (T : List ℕ) (good : GoodRows T) where
       bytes = λ j p q. absurd (omega arith);
     }
 
-    module _ (at lay : List ℕ) (i : ℕ) (read : Read T ys lay₀ at lay i) (here : i < size T) where
-      kept : Row (size T) (upper T) (lower T) i
-      kept = good.rule i read.from here
+    -- row i + 1, the one after the first i
+    module _ (at lay : List ℕ) (i : ℕ) (read : Read T ys lay₀ at lay (suc i)) (here : suc i < size T) where
+      kept : Row (size T) (upper T) (lower T) (suc i)
+      kept = good.rule (suc i) read.from here
 
-      -- row i's entries have their places noted
-      pub upper-noted : get_or T (2 * i - 2) 0 < 1024
-      upper-noted = let c = kept in let most = good.most in rw (upper-place i read.from) (omega arith)
+      -- its entries have their places noted
+      pub upper-noted : get_or T (2 * i) 0 < 1024
+      upper-noted = let c = kept in let most = good.most in omega arith
 
-      pub lower-noted : get_or T (2 * i - 1) 0 < 1024
-      lower-noted = let c = kept in let most = good.most in rw (lower-place i read.from) (omega arith)
-
-      upper_top : get_or at (get_or T (2 * i - 2) 0) 0 ≡ top_place T ys (upper T i)
-      upper_top = rw (upper-place i read.from) (read.tops (upper T i) kept.upper-below)
-
-      lower_top : get_or at (get_or T (2 * i - 1) 0) 0 ≡ top_place T ys (lower T i)
-      lower_top = rw (lower-place i read.from) (read.tops (lower T i) kept.lower-below)
+      pub lower-noted : get_or T (2 * i + 1) 0 < 1024
+      lower-noted = let c = kept in let most = good.most in omega arith
 
       -- a branching's uppermost leaf is that of its upper child
-      fork_top : top_place T ys (size T + i) ≡ top_place T ys (upper T i)
+      fork_top : top_place T ys (size T + suc i) ≡ top_place T ys (upper T (suc i))
       unfolding uppermost
-      fork_top = ap (λ t. place ys (uppermost t)) (object-fork (size T) (upper T) (lower T) good.rule i read.from here)
+      fork_top = ap (λ t. place ys (uppermost t)) (object-fork (size T) (upper T) (lower T) good.rule (suc i) read.from here)
 
       -- one row more
-      module _ (u l : ℕ) (is-u : get_or at (get_or T (2 * i - 2) 0) 0 ≡ u) (is-l : get_or at (get_or T (2 * i - 1) 0) 0 ≡ l) where
-        more_tops : (k : ℕ) → k < size T + (i + 1) → Dec (k ≡ size T + i) → get_or (set at (size T + i) u) k 0 ≡ top_place T ys k
-        more_tops k q (yes e) =
-            let most = good.most in
-            let long = read.at_long in
-            rw (e, get_or-set_same at (size T + i) u 0 (omega arith)) (sym is-u ∙ upper_top ∙ sym fork_top)
-        more_tops k q (no e) = get_or-set_other at (size T + i) k u 0 e ∙ read.tops k (omega arith)
+      abbrev u : ℕ
+      u = get_or at (upper T (suc i)) 0
 
-        more_bytes : length lay₀ + 1 ≡ size T → (j : ℕ) → 1 ≤ j → j < i + 1 → Dec (j ≡ i) →
-            byte (set lay (i - 1) (bit (ltb l u))) j ≡ bit (ltb (top_place T ys (lower T j)) (top_place T ys (upper T j)))
-        more_bytes h j p q (yes e) =
-            let n = read.lay_long in
-            rw (e, sub-one i, get_or-set_same lay (pred i) (bit (ltb l u)) 0 (omega arith))
-            (ap₂ (λ x y. bit (ltb x y)) (sym is-l ∙ lower_top) (sym is-u ∙ upper_top))
-        more_bytes h j p q (no e) = get_or-set_other lay (i - 1) (pred j) (bit (ltb l u)) 0 (omega arith) ∙ read.bytes j p (omega arith)
+      abbrev l : ℕ
+      l = get_or at (lower T (suc i)) 0
 
-        pub read_more : length lay₀ + 1 ≡ size T → Read T ys lay₀ (set at (size T + i) u) (set lay (i - 1) (bit (ltb l u))) (i + 1)
-        read_more h = record {
-          from = omega arith;
-          to = omega arith;
-          at_long = simp length-set read.at_long;
-          lay_long = simp length-set read.lay_long;
-          tops = λ k q. more_tops k q (ℕ_discrete k (size T + i));
-          bytes = λ j p q. more_bytes h j p q (ℕ_discrete j i);
-        }
+      more_tops : (k : ℕ) → k < size T + suc (i + 1) → Dec (k ≡ size T + i + 1) → get_or (set at (size T + i + 1) u) k 0 ≡ top_place T ys k
+      more_tops k q (yes e) =
+          let most = good.most in
+          let long = read.at_long in
+          let row : size T + i + 1 ≡ size T + suc i = omega arith in
+          rw (e, get_or-set_same at (size T + i + 1) u 0 (omega arith), row) (read.tops _ kept.upper-below ∙ sym fork_top)
+      more_tops k q (no e) = get_or-set_other at (size T + i + 1) k u 0 e ∙ read.tops k (omega arith)
+
+      more_bytes : length lay₀ + 1 ≡ size T → (j : ℕ) → 1 ≤ j → j < suc (i + 1) → Dec (j ≡ suc i) →
+          byte (set lay i (bit (ltb l u))) j ≡ bit (ltb (top_place T ys (lower T j)) (top_place T ys (upper T j)))
+      more_bytes h j p q (yes e) =
+          let n = read.lay_long in
+          rw (e, get_or-set_same lay i (bit (ltb l u)) 0 (omega arith))
+          (ap₂ (λ x y. bit (ltb x y)) (read.tops _ kept.lower-below) (read.tops _ kept.upper-below))
+      more_bytes h j p q (no e) = get_or-set_other lay i (pred j) (bit (ltb l u)) 0 (omega arith) ∙ read.bytes j p (omega arith)
+
+      pub read_more : length lay₀ + 1 ≡ size T → Read T ys lay₀ (set at (size T + i + 1) u) (set lay i (bit (ltb l u))) (suc (i + 1))
+      read_more h = record {
+        from = omega arith;
+        to = omega arith;
+        at_long = simp length-set read.at_long;
+        lay_long = simp length-set read.lay_long;
+        tops = λ k q. more_tops k q (ℕ_discrete k (size T + i + 1));
+        bytes = λ j p q. more_bytes h j p q (ℕ_discrete j (suc i));
+      }
 
     pub read_all : (at lay : List ℕ) → length lay₀ + 1 ≡ size T → Read T ys lay₀ at lay (size T) → lay ≡ reading ys (tree_of T) lay₀
     unfolding reading

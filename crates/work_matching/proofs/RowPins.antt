@@ -1,31 +1,28 @@
--- Pins, row by row: what the test finds at the next row, and the next row pinned.
+-- Pins, row by row: the test as one of each pair of bytes, and the next row pinned.
 use Prim.Native.Nat.{ℕ, suc, ◌+◌, ◌≤◌, ◌<◌}
-use mathlib.Core.Path.{◌≡◌, refl, sym, ◌∙◌}
-use mathlib.Core.Bool.{true, false, not, ◌&&◌, ◌||◌}
+use mathlib.Core.Path.{◌≡◌, refl, sym, ap}
+use mathlib.Core.Bool.{Bool, not, ◌&&◌, ◌||◌}
 use mathlib.Core.List.{List, [], ◌∷◌, ◌++◌, append_assoc}
 use native.Mathlib.Numerals.{add-one}
 use native.Mathlib.Omega.{arith}
 use lib.ListN.{length, get_or, set, take, drop, drop_of_length-le}
+use Rattle.std.specs.List.{list_any, zip}
 use lib.Seq.{take_all, drop-cons, take-suc-set, drop-set-lt}
 use Rattle.tanglegram.specs.Order.{may_change, with_pin, pinned_as, turned_otherwise, against_pins}
 use Rattle.tanglegram.proofs.Lists.{append-nil}
 
+-- a row is pinned by its byte in the first layout, and turned otherwise in the second
+abbrev pub otherwise : ℕ × ℕ → Bool
+otherwise q = not (may_change q.0) && turned_otherwise q.0 q.1
+
+pub against_pins-any : (pins lay : List ℕ) → against_pins pins lay ≡ list_any otherwise (zip pins lay)
+unfolding against_pins
+against_pins-any [] [] = refl
+against_pins-any [] (x ∷ lay) = refl
+against_pins-any (p ∷ pins) [] = refl
+against_pins-any (p ∷ pins) (x ∷ lay) = ap (λ b. otherwise (p, x) || b) (against_pins-any pins lay)
+
 module _ (pins lay : List ℕ) (i : ℕ) (p : i < length pins) (h : i < length lay) where
-  -- the test at row i + 1, and at those after it
-  against_next : against_pins (drop i pins) (drop i lay) ≡
-      (not (may_change (get_or pins i 0)) && turned_otherwise (get_or pins i 0) (get_or lay i 0)
-      || against_pins (drop (i + 1) pins) (drop (i + 1) lay))
-  unfolding against_pins
-  against_next = rw (add-one i, drop-cons pins i 0 p, drop-cons lay i 0 h) refl
-
-  pub against_here : (not (may_change (get_or pins i 0)) && turned_otherwise (get_or pins i 0) (get_or lay i 0)) ≡ true →
-      against_pins (drop i pins) (drop i lay) ≡ true
-  against_here e = against_next ∙ rw e refl
-
-  pub against_later : (not (may_change (get_or pins i 0)) && turned_otherwise (get_or pins i 0) (get_or lay i 0)) ≡ false →
-      against_pins (drop i pins) (drop i lay) ≡ against_pins (drop (i + 1) pins) (drop (i + 1) lay)
-  against_later e = against_next ∙ rw e refl
-
   -- row i + 1 pinned or unpinned, and those after it to come
   pub pinned-next : (v : ℕ) → v ≡ with_pin (not (may_change (get_or pins i 0))) (get_or lay i 0) →
       take i lay ++ pinned_as (drop i pins) (drop i lay) ≡
@@ -37,10 +34,6 @@ module _ (pins lay : List ℕ) (i : ℕ) (p : i < length pins) (h : i < length l
       (sym (append_assoc (take i lay) (v ∷ []) rest))
 
 -- past the last row
-pub against_none : (pins lay : List ℕ) (i : ℕ) → length lay ≤ i → against_pins (drop i pins) (drop i lay) ≡ false
-unfolding against_pins
-against_none pins lay i h = rw (drop_of_length-le lay h) refl
-
 pub pinned-all : (pins lay : List ℕ) (i : ℕ) → length lay ≤ i → take i lay ++ pinned_as (drop i pins) (drop i lay) ≡ lay
 unfolding pinned_as
 pinned-all pins lay i h = rw (drop_of_length-le lay h, take_all i lay h) (append-nil lay)

@@ -10,13 +10,7 @@ use work_trees::{is_turned, may_change, with_pin};
 fn turns_pinned(p: u8, x: u8) -> bool
     ensures { result ≡ (not (may_change p) && turned_otherwise p x) }
 {
-    if may_change(p) {
-        return false;
-    }
-    if is_turned(p) {
-        return !is_turned(x);
-    }
-    is_turned(x)
+    !may_change(p) && is_turned(p) != is_turned(x)
 }
 
 // Whether some row that is pinned in `pins` is turned otherwise in `lay`.
@@ -24,21 +18,7 @@ fn against_pins(pins: &[u8], lay: &[u8]) -> bool
     requires { length pins.now ≡ length lay.now }
     ensures { result ≡ against_pins pins.now lay.now }
 {
-    let mut i = 0;
-    while i < lay.len() {
-        if turns_pinned(pins[i], lay[i]) {
-            return true;
-        }
-        i += 1;
-    }
-    false
-}
-
-// The byte x, pinned exactly if p is.
-fn pinned_like(p: u8, x: u8) -> u8
-    ensures { result ≡ with_pin (not (may_change p)) x }
-{
-    with_pin(!may_change(p), x)
+    pins.iter().zip(lay).any(|(p, x)| turns_pinned(*p, *x))
 }
 
 // Pins each row of `lay` that is pinned in `pins`, and unpins the others; each is turned as it was.
@@ -46,10 +26,8 @@ fn pin_as(pins: &[u8], lay: &mut [u8])
     requires { length pins.now ≡ length lay.old }
     ensures { lay.new ≡ pinned_as pins.now lay.old }
 {
-    let mut i = 0;
-    while i < lay.len() {
-        lay[i] = pinned_like(pins[i], lay[i]);
-        i += 1;
+    for (i, x) in lay.iter_mut().enumerate() {
+        *x = with_pin(!may_change(pins[i]), *x);
     }
 }
 

@@ -2,14 +2,14 @@
 -- earlier row does.
 use Prim.Native.Nat.{ℕ, zero, suc, pred, ◌+◌, ◌-◌, ◌≤◌, ◌<◌}
 use mathlib.Core.Path.{◌≡◌, refl, sym, ap, ◌∙◌}
-use mathlib.Core.Bool.{Bool, true, false, cond, ◌||◌, true≢false}
+use mathlib.Core.Bool.{Bool, true, false, cond, not, ◌||◌, true≢false}
 use mathlib.Core.Logic.{◌≢◌, ◌↔◌}
 use mathlib.Core.List.{List, [], ◌∷◌}
 use native.Mathlib.Decide.{ℕ_discrete}
 use native.Mathlib.Omega.{arith}
 use borrow.Author.Tests.{leb-false, lt-leb, eqb-false, ne_eqb}
 use lib.Dec.{leb, eqb}
-use Rattle.std.proofs.Common.{Some}
+use Rattle.std.proofs.Common.{Some, None, is_some}
 use Rattle.tanglegram.proofs.Bools.{or_neither}
 use Rattle.tanglegram.specs.Lists.{Each, range}
 use Rattle.tanglegram.specs.Tree.{used, Row, Rule}
@@ -162,7 +162,21 @@ module _ (n : ℕ) (up low up' low' : ℕ → ℕ) (same : (i : ℕ) → 1 ≤ i
 pub no_bad_row-good : (T : List ℕ) → 1 ≤ size T → size T ≤ 512 → bad_row (size T) (upper T) (lower T) ≡ 0 → GoodRows T
 no_bad_row-good T h k e = record { some = h; most = k; rule = (bad_row-none (size T) (upper T) (lower T)).0 e }
 
--- the row that a number from 1 on tells of
-pub row_found-some : (i : ℕ) → 1 ≤ i → Some i ≡ row_found i
+-- ---- the row that a number tells of
+
+pub row_found-some : (b : ℕ) → 1 ≤ b → Some b ≡ row_found b
 row_found-some zero h = absurd (omega arith)
-row_found-some (suc i) h = refl
+row_found-some (suc k) h = refl
+
+-- what its answer tells of the number
+pub some_row_found : (b i : ℕ) → Some i ≡ row_found b → (b ≡ i) × (1 ≤ b)
+some_row_found zero i e = absurd (cc)
+some_row_found (suc k) i e = (cc, omega arith)
+
+pub none_row_found : (b : ℕ) → None ≡ row_found b → b ≡ 0
+none_row_found zero e = refl
+none_row_found (suc k) e = absurd (cc)
+
+pub is_some-row_found : (b : ℕ) → is_some (row_found b) ≡ not (eqb b 0)
+is_some-row_found zero = refl
+is_some-row_found (suc k) = rw (ne_eqb (suc k) 0 (λ e. omega (arith, e))) refl

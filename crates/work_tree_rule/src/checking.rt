@@ -4,6 +4,7 @@ ghost use Rattle.work_trees.specs.Rows.{upper, lower};
 ghost use Rattle.work_tree_rule.specs.Marks.{refused_by, broken_by};
 ghost use Rattle.work_tree_rule.specs.Rule.{bad_row, row_found};
 
+use crate::numbers::Numbers;
 use std::marker::Model;
 
 // Marks at the objects that rows use. Statements speak of the list of them, 1 at a used object and 0 elsewhere.
@@ -54,14 +55,15 @@ impl Used {
     }
 }
 
-// The lowest of the n-1 rows of a list that breaks the tree rule, if one does.
-pub fn bad_row(rows: &[u16], n: usize) -> Option<u16>
-    requires { (1 ≤ n) × (n ≤ 512) × (length rows.now ≡ 2 * (n - 1)) }
-    ensures { result ≡ row_found (bad_row n (upper rows.now) (lower rows.now)) }
+// The lowest of n-1 rows that breaks the tree rule, if one does: rows over n leaves, flat, upper then lower.
+pub fn bad_row<T: Numbers>(rows: &T, n: usize) -> Option<u16>
+    requires { (1 ≤ n) × (n ≤ 512) × (length (T.list rows.now) ≡ 2 * (n - 1)) }
+    ensures { result ≡
+        row_found (bad_row n (upper (T.list rows.now)) (lower (T.list rows.now))) }
 {
     let mut used = Used::new();
     for i in 1..n {
-        if used.row_breaks(rows[2 * i - 2], rows[2 * i - 1], n + i) {
+        if used.row_breaks(rows.number(2 * i - 2), rows.number(2 * i - 1), n + i) {
             return Some(i as u16);
         }
     }

@@ -1,6 +1,8 @@
-// The tree rule, tested row by row: on a list of rows, or a row at a time by a caller that has them elsewhere.
+// The tree rule, tested row by row, on numbers in whatever form they stand in memory.
 #![tactic(auto)]
 
 mod checking;
+mod numbers;
 
 pub use checking::{Used, bad_row};
+pub use numbers::Numbers;

@@ -10,6 +10,8 @@ use native.Mathlib.Numerals.{add-one}
 use native.Mathlib.Omega.{arith}
 use lib.ListN.{length, get_or, set, length-set}
 use lib.Seq.{get_or-set_same, get_or-set_other}
+use Rattle.std.specs.List.{swap}
+use Rattle.std.proofs.lemmas.List.Edits.{swap_is}
 use Rattle.tanglegram.specs.Lists.{Each}
 use Rattle.tanglegram.specs.Tree.{Tree, fork, leaves, used, object, Row, Rule}
 use Rattle.tanglegram.specs.Order.{byte, turned, order}
@@ -124,13 +126,12 @@ module _ (T : List ℕ) (i : ℕ) where
       let a = 2 * pred i in
       get_or-set_other (set T a (lower T i)) (a + 1) p (upper T i) 0 k ∙ get_or-set_other T a p (lower T i) 0 h
 
+  -- it is the library's swap of two places
+  pub swap-row : 2 * pred i + 1 < length T → swap T (2 * pred i) (2 * pred i + 1) ≡ exchanged_at T i
+  swap-row h = sym (swap_is T (2 * pred i) (2 * pred i + 1) 0 (omega arith) h)
+
 module _ (T lay : List ℕ) where
   -- one row more
-  pub exchanged_to-turned : (m : ℕ) → turned (get_or lay m 0) ≡ true →
-      exchanged_to T lay (m + 1) ≡ exchanged_at (exchanged_to T lay m) (suc m)
-  unfolding exchanged_to
-  exchanged_to-turned m e = rw (add-one m, exchanged_to, e) refl
-
   pub exchanged_to-given : (m : ℕ) → turned (get_or lay m 0) ≡ false → exchanged_to T lay (m + 1) ≡ exchanged_to T lay m
   unfolding exchanged_to
   exchanged_to-given m e = rw (add-one m, exchanged_to, e) refl
@@ -149,6 +150,12 @@ module _ (T lay : List ℕ) where
           length (cond b (exchanged_at (exchanged_to T lay m) (suc m)) (exchanged_to T lay m)) ≡ length T
       go true e = simp length-set e
       go false e = e
+
+  pub exchanged_to-turned : (m : ℕ) → 2 * m + 1 < length T → turned (get_or lay m 0) ≡ true →
+      exchanged_to T lay (m + 1) ≡ swap (exchanged_to T lay m) (2 * m) (2 * m + 1)
+  unfolding exchanged_to
+  exchanged_to-turned m h e =
+      rw (add-one m, exchanged_to, e) (sym (swap-row (exchanged_to T lay m) (suc m) (omega (arith, length-exchanged_to m))))
 
   -- what stands past the first m rows stays
   exchanged_to-past : (m p : ℕ) → 2 * m ≤ p → get_or (exchanged_to T lay m) p 0 ≡ get_or T p 0

@@ -13,7 +13,7 @@ use Rattle.work_trees.proofs.ByNumber.{children_within}
 use Rattle.work_trees.proofs.Exchanged.{object-exchanged}
 use Rattle.work_trees.proofs.LaidTree.{length-leaves-exchanged}
 use Rattle.work_trees.proofs.RowArray.{upper-place, lower-place}
-use Rattle.work_trees.proofs.RowNotes.{NotedTo, noted-none, noted_more, noted-all, note_is, entries-noted}
+use Rattle.work_trees.proofs.RowNotes.{NotedTo, noted_more, note_is, entries-noted}
 use Rattle.work_trees.proofs.Walked.{leaves-leaf, length-fork}
 
 -- how many leaves an object has
@@ -27,9 +27,6 @@ CountedTo T many i = NotedTo T (under T) many i
 module _ (T : List ℕ) (good : GoodRows T) where
   under_leaf : (o : ℕ) → o ≤ size T → under T o ≡ 1
   under_leaf o h = ap length (leaves-leaf T good o h)
-
-  pub counted_none : (many : List ℕ) → length many ≡ 512 → CountedTo T many 1
-  counted_none many h = noted-none good h
 
   -- a row's two entries, by the places that the code reads, and the object that it makes
   module _ (i : ℕ) (p : 1 ≤ i) (q : i < size T) where
@@ -54,9 +51,6 @@ module _ (T : List ℕ) (good : GoodRows T) where
 
       pub counted-more : CountedTo T (set many (i - 1) (a + b)) (i + 1)
       counted-more = noted_more good before q (rw (both-counted.0, both-counted.1) (sym under_row))
-
-  pub counted-all : (many : List ℕ) (i : ℕ) → CountedTo T many i → size T ≤ i → LeafCounts T many
-  counted-all many i done h = record { long = done.long; counts = noted-all done h }
 
   -- once all rows are counted
   pub count-is : (many : List ℕ) → LeafCounts T many → (o : ℕ) → 1 ≤ o → o < 2 * size T → count_of many (size T) o ≡ under T o

@@ -3,7 +3,7 @@ use Prim.Native.Nat.{ℕ, suc, ◌+◌, ◌≤◌, ◌<◌}
 use mathlib.Core.Path.{◌≡◌, refl, sym, ◌∙◌}
 use mathlib.Core.List.{List, ◌∷◌}
 use native.Mathlib.Decide.{ℕ_discrete}
-use native.Mathlib.Nat.{add-zero, zero-add, add-suc, suc-add}
+use native.Mathlib.Nat.{add-zero, add-suc, suc-add}
 use native.Mathlib.Omega.{arith}
 use lib.ListN.{length, get_or, set, take, drop, replicate, length-set, length-take, length-replicate, get_or-replicate, drop_of_length-le}
 use lib.Seq.{drop-cons, get_or-take, get_or-set_same, get_or-set_other}
@@ -46,6 +46,3 @@ module _ (xs : List ℕ) (n : ℕ) (few : n ≤ 512) (many : length xs ≡ 512) 
             let new = get_or-set_same at x j 0 (omega (arith, after.long)) in
             rw (e, new, first_entry, place-head x (drop (suc j) (take n xs)), add-zero) refl
         go v k (no e) = get_or-set_other at (get_or xs j 0) v j 0 e ∙ other_entry v k (λ z. e (sym z))
-
-  pub noted-all : (at : List ℕ) → PlacesNoted xs n at 0 → (v : ℕ) → v ≤ n → get_or at v 0 ≡ place (take n xs) v
-  noted-all at a v h = a.right v h ∙ zero-add (place (take n xs) v)

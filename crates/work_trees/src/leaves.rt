@@ -6,22 +6,12 @@ ghost use Rattle.std.proofs.lemmas.List.Edits.{sets};
 ghost use Rattle.tanglegram.specs.Tree.{leaves};
 ghost use Rattle.work_trees.specs.Rows.{count_of, GoodRows, LeafCounts, size, object_of, tree_of};
 
-// An entry as an index.
-fn wide(x: u16) -> usize
-    ensures { result ≡ x }
-{
-    x as usize
-}
-
 // How many leaves an object has, from the notes of the rows' counts: one, if it is a leaf.
 pub fn leaves_under(many: &[u16; 512], n: usize, obj: usize) -> u16
     requires { (1 ≤ n) × (n ≤ 512) × (obj < 2 * n) }
     ensures { result ≡ count_of many.now n obj }
 {
-    if obj <= n {
-        return 1;
-    }
-    many[obj - n - 1]
+    if obj <= n { 1 } else { many[obj - n - 1] }
 }
 
 // Notes for each row how many leaves the object that it makes has: those of its two children.
@@ -29,13 +19,11 @@ pub fn count_leaves(rows: &[u16; 1023], many: &mut [u16; 512])
     requires { GoodRows rows.now × (length many.old ≡ 512) }
     ensures { LeafCounts rows.now many.new }
 {
-    let n = rows[1022] as usize;
-    let mut i = 1;
-    while i < n {
-        let a = leaves_under(many, n, wide(rows[2 * i - 2]));
-        let b = leaves_under(many, n, wide(rows[2 * i - 1]));
+    let n = usize::from(rows[1022]);
+    for i in 1..n {
+        let a = leaves_under(many, n, usize::from(rows[2 * i - 2]));
+        let b = leaves_under(many, n, usize::from(rows[2 * i - 1]));
         many[i - 1] = a + b;
-        i += 1;
     }
 }
 
@@ -52,7 +40,7 @@ fn walk(rows: &[u16; 1023], many: &[u16; 512], obj: u16, out: &mut [u16; 512], a
         out[at] = obj;
         return;
     }
-    let i = obj as usize - n as usize - 1;
+    let i = usize::from(obj - n - 1);
     let a = rows[2 * i];
     let b = rows[2 * i + 1];
     if a <= n {
@@ -60,14 +48,14 @@ fn walk(rows: &[u16; 1023], many: &[u16; 512], obj: u16, out: &mut [u16; 512], a
         walk(rows, many, b, out, at + 1);
         return;
     }
-    let first = leaves_under(many, n as usize, a as usize) as usize;
+    let first = usize::from(leaves_under(many, usize::from(n), usize::from(a)));
     let mid = at + first;
     if b <= n {
         out[mid] = b;
         walk(rows, many, a, out, at);
         return;
     }
-    let second = leaves_under(many, n as usize, b as usize) as usize;
+    let second = usize::from(leaves_under(many, usize::from(n), usize::from(b)));
     if first <= second {
         walk(rows, many, a, out, at);
         walk(rows, many, b, out, mid);

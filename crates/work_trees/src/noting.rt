@@ -8,12 +8,10 @@ pub fn note_places(xs: &[u16; 512], n: u16, at: &mut [u16; 1024])
     ensures at_len { length at.new ≡ 1024 }
     ensures by_index { (v : ℕ) → v ≤ n → get_or at.new v 0 ≡ place (take n xs.now) v }
 {
-    let mut i = n;
-    while 0 < i {
-        i -= 1;
-        let v = xs[i as usize];
+    for i in (0..n).rev() {
+        let v = xs[usize::from(i)];
         if v <= n {
-            at[v as usize] = i;
+            at[usize::from(v)] = i;
         }
     }
 }

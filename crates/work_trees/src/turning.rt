@@ -10,10 +10,7 @@ use crate::leaves::{count_leaves, leaf_order};
 pub fn is_turned(x: u8) -> bool
     ensures { result ≡ turned x }
 {
-    if x == 2 {
-        return false;
-    }
-    x != 0
+    !matches!(x, 0 | 2)
 }
 
 // Whether a row with that byte may be turned over: it is not pinned.
@@ -27,10 +24,7 @@ pub fn may_change(x: u8) -> bool
 fn byte_of(pin: bool, turn: bool) -> u8
     ensures { result ≡ byte_of pin turn }
 {
-    if pin {
-        return if turn { 3 } else { 2 };
-    }
-    if turn { 1 } else { 0 }
+    2 * u8::from(pin) + u8::from(turn)
 }
 
 // The byte that turns over a row whose byte is x, pinned as it was.
@@ -53,14 +47,10 @@ pub fn exchange(rows: &mut [u16; 1023], lay: &[u8])
     requires lay_len { length lay.now + 1 ≡ size rows.old }
     ensures { rows.new ≡ exchanged rows.old lay.now }
 {
-    let mut i = 0;
-    while i < lay.len() {
-        if is_turned(lay[i]) {
-            let a = rows[2 * i];
-            rows[2 * i] = rows[2 * i + 1];
-            rows[2 * i + 1] = a;
+    for (i, &x) in lay.iter().enumerate() {
+        if is_turned(x) {
+            rows.swap(2 * i, 2 * i + 1);
         }
-        i += 1;
     }
 }
 

@@ -1,23 +1,15 @@
-use Rattle.std.proofs.Common.{arith, refl, sym, ◌∙◌}
-use Rattle.work_matching.proofs.RowPins.{against_here, against_later, against_none}
+-- `against_pins` meets its contract: some pair of bytes passes the test.
+use Rattle.std.proofs.Common.{rules, tests, sym, ◌∙◌}
+use Rattle.std.proofs.lemmas.Iterator.{YieldsList-from_slice, YieldsList-from_zip}
+use Rattle.std.proofs.lemmas.Iterator.Search.{any_from_yields_List}
+use Rattle.work_matching.proofs.RowPins.{against_pins-any, otherwise}
 use Rattle.work_matching.proofs.pins.against_pins.Goals as goal
-
-pub loop-i-init : goal.loop-i-init
-loop-i-init c = (omega arith, refl)
-
-pub returns-then-turns_pinned : goal.returns-then-turns_pinned
-returns-then-turns_pinned c =
-    let s = c.args in
-    let found = sym c.turns_pinned.ensures ∙ c.if-turns_pinned.true in
-    sym (c.loop-i.invariant.1 ∙ against_here s.pins.now s.lay.now c.loop-i.i (omega arith) (omega arith) found)
-
-pub loop-i-preserved : goal.loop-i-preserved
-loop-i-preserved c =
-    let s = c.args in
-    let passed = sym c.turns_pinned.ensures ∙ c.if-turns_pinned.false in
-    (omega arith, c.loop-i.invariant.1 ∙ against_later s.pins.now s.lay.now c.loop-i.i (omega arith) (omega arith) passed)
 
 pub returns : goal.returns
 returns c =
-    let s = c.args in
-    sym (c.loop-i.invariant.1 ∙ against_none s.pins.now s.lay.now c.loop-i.i (omega arith))
+    let pins = c.args.pins.now in
+    let lay = c.args.lay.now in
+    any_from_yields_List otherwise c.any.new.self _ _ c.any.ensures.ran
+    (YieldsList-from_zip (YieldsList-from_slice pins cc) (YieldsList-from_slice lay cc))
+    (λ x b q k. search (rules, tests))
+    ∙ sym (against_pins-any pins lay)

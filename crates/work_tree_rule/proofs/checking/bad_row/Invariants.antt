@@ -5,4 +5,4 @@ use Rattle.work_tree_rule.proofs.Marks.{Checked}
 use Rattle.work_tree_rule.proofs.checking.bad_row.Given as goal
 
 abbrev pub invariant-loop-i : goal.invariant-loop-i
-invariant-loop-i l = Checked l.n (upper l.rows) (lower l.rows) l.used l.i
+invariant-loop-i g l = Checked l.n (upper (g.T.Numbers.list l.rows)) (lower (g.T.Numbers.list l.rows)) l.used l.i

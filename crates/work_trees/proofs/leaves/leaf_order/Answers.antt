@@ -3,15 +3,11 @@ use Rattle.std.proofs.Common.{arith, ◌∙◌}
 use Rattle.work_trees.proofs.Walked.{length-leaves, last-object, sets-leaves}
 use Rattle.work_trees.proofs.leaves.leaf_order.Goals as goal
 
-pub walk-requires : goal.walk-requires
-walk-requires c =
+pub walk-requires-clause-obj_bound : goal.walk-requires-clause-obj_bound
+walk-requires-clause-obj_bound c =
     let g = c.requires.good_rows.0 in
     let n = length-leaves c.args.rows.now g in
-    record {
-      good_rows = c.requires.good_rows;
-      le_obj = omega arith;
-      obj_bound = rw (last-object c.args.rows.now g) (omega arith);
-    }
+    rw (last-object c.args.rows.now g) (omega arith)
 
 pub returns : goal.returns
 returns c =

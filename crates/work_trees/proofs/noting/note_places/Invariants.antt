@@ -1,10 +1,6 @@
 -- `note_places` meets its contract. The loop's invariant: each leaf has its first place among the entries from i on.
-use Rattle.std.proofs.Common.{◌≤◌}
 use Rattle.work_trees.proofs.Places.{PlacesNoted}
 use Rattle.work_trees.proofs.noting.note_places.Given as goal
 
 abbrev pub invariant-loop-i : goal.invariant-loop-i
-invariant-loop-i l = (l.i ≤ l.n) × PlacesNoted l.xs l.n l.at l.i
-
-abbrev pub decreases-loop-i : goal.decreases-loop-i
-decreases-loop-i l = l.i
+invariant-loop-i l = PlacesNoted l.xs l.n l.at l.i

@@ -2,22 +2,18 @@
 use Rattle.std.proofs.Common.{refl, ◌∙◌}
 use Rattle.work_trees.specs.Rows.{GoodRows}
 use Rattle.work_trees.proofs.Laid.{exchanged-good, exchanged-written}
+use Rattle.work_trees.proofs.turning.layout_order.Goals.{After-exchange}
 use Rattle.work_trees.proofs.turning.layout_order.Goals as goal
 
-pub count_leaves-requires : goal.count_leaves-requires
-count_leaves-requires c =
-    let good-laid : GoodRows c.exchange.new.rows =
-    rw c.exchange.ensures (exchanged-good c.args.rows.now c.args.lay.now c.requires.good_rows) in
-    (good-laid, refl)
+good-laid : (c : After-exchange) → GoodRows c.exchange.new.rows
+good-laid c = rw c.exchange.ensures (exchanged-good c.args.rows.now c.args.lay.now c.requires.good_rows)
 
-pub leaf_order-requires : goal.leaf_order-requires
-leaf_order-requires c =
-    let good-laid : GoodRows c.exchange.new.rows =
-    rw c.exchange.ensures (exchanged-good c.args.rows.now c.args.lay.now c.requires.good_rows) in
-    record {
-      good_rows = (good-laid, c.count_leaves.ensures);
-      out_len = c.requires.out_len;
-    }
+pub count_leaves-requires : goal.count_leaves-requires
+count_leaves-requires c = (good-laid (goal.at.count_leaves-requires c).After-exchange, refl)
+
+pub leaf_order-requires-clause-good_rows : goal.leaf_order-requires-clause-good_rows
+leaf_order-requires-clause-good_rows c =
+    (good-laid (goal.at.leaf_order-requires-clause-good_rows c).After-exchange, c.count_leaves.ensures)
 
 pub returns : goal.returns
 returns c =
