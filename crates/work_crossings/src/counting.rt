@@ -5,7 +5,7 @@ ghost use Rattle.tanglegram.specs.Lists.{Distinct, Each, bit, range};
 ghost use Rattle.work_places.specs.Arrays.{OneToN, at, cross_at, falls};
 
 use work_places::entry_of;
-use work_seen_places::{mark, ones_past};
+use work_seen_places::Seen;
 
 // The crossings of an order of the leaves 1 to n, whose links end at the far places: for each leaf the seen places past
 // its own, which is then seen too.
@@ -14,14 +14,12 @@ pub fn count_seen(order: &[u16; 512], far: &[u16; 512], n: usize) -> u32
     requires each { Each (λ a. at far.now a < 512) (range 1 n) × Distinct (map (at far.now) (range 1 n)) }
     ensures { result ≡ pairs (inverted (at far.now)) (take n order.now) }
 {
-    let mut w = [0u64; 8];
-    let mut count: u32 = 0;
-    let mut i = 0;
-    while i < n {
-        let p = entry_of(far, order[i]);
-        count += ones_past(&w, p);
-        mark(&mut w, p);
-        i += 1;
+    let mut seen = Seen::new();
+    let mut count = 0;
+    for a in &order[..n] {
+        let p = entry_of(far, *a);
+        count += seen.ones_past(p);
+        seen.mark(p);
     }
     count
 }

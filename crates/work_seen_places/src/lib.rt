@@ -3,4 +3,4 @@
 
 mod seen;
 
-pub use seen::{all_before, is_marked, mark, ones_past};
+pub use seen::Seen;

@@ -1,10 +1,6 @@
 -- `count_seen` meets its contract. The loop's invariant: the leaves passed are seen, and their crossings counted.
-use Rattle.std.proofs.Common.{◌-◌}
 use Rattle.work_crossings.proofs.Runs.{SeenRun}
 use Rattle.work_crossings.proofs.counting.count_seen.Given as goal
 
-abbrev pub invariant-loop-i : goal.invariant-loop-i
-invariant-loop-i l = SeenRun l.far l.order l.n l.w l.count l.i
-
-abbrev pub decreases-loop-i : goal.decreases-loop-i
-decreases-loop-i l = l.n - l.i
+abbrev pub invariant-loop-a : goal.invariant-loop-a
+invariant-loop-a l = SeenRun l.far l.order l.n l.seen l.count l.a-index
