@@ -10,6 +10,8 @@ use native.Mathlib.Omega.{arith}
 use lib.Dec.{ltb}
 use lib.ListN.{length, get_or, take, replicate, length-take}
 use lib.Seq.{take-suc}
+use Rattle.std.specs.List.{sum_by}
+use Rattle.std.proofs.lemmas.List.Sums.{sum_by-cons}
 use Rattle.tanglegram.specs.Lists.{Each, Distinct, range, bit}
 use Rattle.tanglegram.specs.Entanglement.{sum}
 use Rattle.tanglegram.specs.Crossings.{over, across, pairs, inverted}
@@ -79,12 +81,16 @@ unfolding across
 across-append w [] ys zs = refl
 across-append w (x ∷ xs) ys zs = omega (arith, across-append w xs ys zs, over-append w x ys zs)
 
--- one more in the first run
-pub across-first : (w : ℕ → ℕ → ℕ) (xs : List ℕ) (j b : ℕ) → j < length xs →
-    across w (take (j + 1) xs) (b ∷ []) ≡ across w (take j xs) (b ∷ []) + w (get_or xs j 0) b
-unfolding over
-across-first w xs j b h =
-    rw (add-one j, take-suc xs j 0 h) (omega (arith, across-snoc w (take j xs) (get_or xs j 0) (b ∷ [])))
+-- a place is compared with each of a run
+pub falls-sum : (xs : List ℕ) (q : ℕ) → sum_by (λ p. falls p q) xs ≡ across falls xs (q ∷ [])
+unfolding across over
+falls-sum [] q = refl
+falls-sum (x ∷ xs) q = sum_by-cons (λ p. falls p q) x xs ∙ omega (arith, falls-sum xs q)
+
+pub falls-most : (xs : List ℕ) (q : ℕ) → across falls xs (q ∷ []) ≤ length xs
+unfolding across over
+falls-most [] q = omega arith
+falls-most (x ∷ xs) q = omega (arith, falls-most xs q, bit-most (ltb q x))
 
 -- one more in the second
 pub across-next : (w : ℕ → ℕ → ℕ) (xs ys : List ℕ) (j : ℕ) → j < length ys →

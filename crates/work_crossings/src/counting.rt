@@ -28,25 +28,7 @@ pub fn count_seen(order: &[u16; 512], far: &[u16; 512], n: usize) -> u32
 fn crossed(la: u16, lb: u16, ra: u16, rb: u16) -> u32
     ensures { (result ≡ bit (ltb la lb && ltb rb ra || ltb lb la && ltb ra rb)) × (result ≤ 1) }
 {
-    if la < lb && rb < ra || lb < la && ra < rb {
-        1
-    } else {
-        0
-    }
-}
-
-// How many of the links of the leaves before i + 1 cross its own.
-fn crossed_before(left: &[u16; 512], far: &[u16; 512], i: usize) -> u32
-    requires { i < 512 }
-    ensures { result ≡ across (cross_at left.now far.now) (range 1 i) (suc i ∷ []) }
-{
-    let mut count: u32 = 0;
-    let mut j = 0;
-    while j < i {
-        count += crossed(left[j], left[i], far[j], far[i]);
-        j += 1;
-    }
-    count
+    u32::from(la < lb && rb < ra || lb < la && ra < rb)
 }
 
 // The crossings of n links, pair by pair: left has the place of each left leaf, far that of its link's right end.
@@ -54,34 +36,21 @@ pub fn count_pairs(left: &[u16; 512], far: &[u16; 512], n: usize) -> u32
     requires { n ≤ 512 }
     ensures { result ≡ pairs (cross_at left.now far.now) (range 1 n) }
 {
-    let mut count: u32 = 0;
-    let mut i = 0;
-    while i < n {
-        count += crossed_before(left, far, i);
-        i += 1;
+    let mut count = 0;
+    for i in 0..n {
+        for j in 0..i {
+            count += crossed(left[j], left[i], far[j], far[i]);
+        }
     }
     count
 }
 
-// 1 if place q is before p, else 0.
-fn falls_to(p: u16, q: u16) -> u16
-    ensures { (result ≡ falls p q) × (result ≤ 1) }
+// How many of a run of places are past q.
+fn past_among(run: &[u16], q: u16) -> u16
+    requires { length run.now ≤ 512 }
+    ensures { (result ≡ across falls run.now (q ∷ [])) × (result ≤ 512) }
 {
-    if q < p { 1 } else { 0 }
-}
-
-// How many of the k places that stand in an array from index `at` on are past q.
-fn past_among(seen: &[u16; 512], at: usize, k: usize, q: u16) -> u16
-    requires { (at + k ≤ 512) × (length seen.now ≡ 512) }
-    ensures { (result ≡ across falls (take k (drop at seen.now)) (q ∷ [])) × (result ≤ 512) }
-{
-    let mut count: u16 = 0;
-    let mut i = 0;
-    while i < k {
-        count += falls_to(seen[at + i], q);
-        i += 1;
-    }
-    count
+    run.iter().map(|p| u16::from(q < *p)).sum()
 }
 
 // The crossings between two runs of links, pair by pair: an array has their far places, k of the first run from index
@@ -91,11 +60,10 @@ pub fn count_across(seen: &[u16; 512], at: usize, k: usize, from: usize, m: usiz
     ensures { result
         ≡ across falls (take k (drop at seen.now)) (take m (drop from seen.now)) }
 {
-    let mut count: u32 = 0;
-    let mut j = 0;
-    while j < m {
-        count += past_among(seen, at, k, seen[from + j]) as u32;
-        j += 1;
+    let first = &seen[at..at + k];
+    let mut count = 0;
+    for q in &seen[from..from + m] {
+        count += u32::from(past_among(first, *q));
     }
     count
 }

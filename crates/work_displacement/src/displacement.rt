@@ -1,22 +1,14 @@
 // Displacement: the sum of the squares of left place less right place, and its worst value.
-ghost use Rattle.std.specs.Prelude.{◌≡◌, ◌+◌, ◌-◌, ◌<◌, ◌≤◌};
+ghost use Rattle.std.specs.Prelude.{◌≡◌, ◌<◌, ◌≤◌};
 ghost use Rattle.tanglegram.specs.Entanglement.{squared, sum, worst};
 ghost use Rattle.tanglegram.specs.Lists.{Each, range};
 ghost use Rattle.work_places.specs.Arrays.{at};
 
-// How far two places are apart.
-fn apart(x: u32, y: u32) -> u32
-    ensures { result ≡ x - y + (y - x) }
-{
-    if x < y { y - x } else { x - y }
-}
-
-// The square of how far two places are apart, at most 511 times 511.
+// The square of how far two places are apart.
 fn square(x: u16, y: u16) -> u32
-    requires { (x < 512) × (y < 512) }
-    ensures { (result ≡ squared x y) × (result ≤ 261121) }
+    ensures { result ≡ squared x y }
 {
-    let d = apart(x as u32, y as u32);
+    let d = u32::from(x.abs_diff(y));
     d * d
 }
 
@@ -26,13 +18,7 @@ pub fn displaced(left: &[u16; 512], far: &[u16; 512], n: usize) -> u32
     requires { (n ≤ 512) × Each (λ a. (at left.now a < 512) × (at far.now a < 512)) (range 1 n) }
     ensures { result ≡ sum (λ a. squared (at left.now a) (at far.now a)) (range 1 n) }
 {
-    let mut total: u32 = 0;
-    let mut i = 0;
-    while i < n {
-        total += square(left[i], far[i]);
-        i += 1;
-    }
-    total
+    left[..n].iter().zip(far).map(|(x, y)| square(*x, *y)).sum()
 }
 
 // The worst displacement of n links, n(n² - 1)/3, at most 44,739,072. The product is n³ - n, and n³ is at most

@@ -2,20 +2,22 @@
 -- one-to-one list names.
 use Prim.Native.Nat.{ℕ, zero, suc, pred, ◌+◌, ◌-◌, ◌≤◌, ◌<◌}
 use mathlib.Core.Path.{◌≡◌, refl, sym, ap, ◌∙◌, subst}
-use mathlib.Core.List.{List, [], ◌∷◌, ◌++◌, map, map-append}
+use mathlib.Core.List.{List, [], ◌∷◌, ◌++◌, map, map-append, map-map}
 use mathlib.Core.Logic.{◌≢◌}
 use native.Mathlib.Decide.{dec_lt}
 use native.Mathlib.Numerals.{add-one, sub-one}
 use native.Mathlib.Omega.{arith}
-use lib.ListN.{length, get_or, set, take, drop, length-append, length-take, length-drop, length-set, length-map, get_or-append}
+use lib.ListN.{length, get_or, set, take, drop, drop_of_length-le, length-append, length-take, length-drop, length-set}
+use lib.ListN.{length-map, get_or-append}
 use lib.Seq.{take-add, drop-cons, get_or-take, get_or-drop, get_or-append-add, append_snoc}
-use lib.Seq.{get_or-set_same, get_or-set_other, set_at, get_or_at, take-suc, ext_get_or}
+use lib.Seq.{length-take-le, get_or-set_same, get_or-set_other, set_at, get_or_at, take-suc, ext_get_or}
+use Rattle.std.proofs.lemmas.List.{append-nil, take_all, take-append-le}
+use Rattle.std.proofs.lemmas.Slice.{drop-append-drop}
 use Rattle.tanglegram.specs.Lists.{Each, Distinct, range, place}
 use Rattle.tanglegram.specs.Crossings.{to}
-use Rattle.tanglegram.proofs.Lists.{each-mem, each-split, pairwise_split, range-each, length-range, mem-range, mem-at}
+use Rattle.tanglegram.proofs.Lists.{each_map, each-mem, each-split, pairwise_split, range-each, length-range, mem-range, mem-at}
 use Rattle.work_places.specs.Arrays.{Leaf, OneToN, along, filled}
 use Rattle.work_places.proofs.OneToOne.{suc-pred, perm-length, perm-leaves, place-leaf, at-place-leaf, place-at-leaf}
-use Rattle.tanglegram.proofs.ListSums.{range_last}
 
 -- ---- the first entries
 
@@ -95,21 +97,6 @@ module _ (f : ℕ → ℕ) where
   pub length-filled : (n : ℕ) (out : List ℕ) → n ≤ length out → length (filled f n out) ≡ length out
   length-filled n out h = omega (arith, length-append (map f (range 1 n)) (drop n out), front_length n, length-drop n out)
 
-  pub filled_none : (out : List ℕ) → out ≡ filled f 0 out
-  unfolding range
-  filled_none out = refl
-
-  -- one entry more
-  pub filled_more : (i : ℕ) (out : List ℕ) → i < length out → set (filled f i out) i (f (suc i)) ≡ filled f (i + 1) out
-  filled_more i out h =
-      let front = map f (range 1 i) in
-      let e : 1 + i ≡ suc i = omega arith in
-      let last : map f (range 1 (suc i)) ≡ front ++ (f (suc i) ∷ []) =
-      ap (map f) (range_last 1 i) ∙ map-append f (range 1 i) ((1 + i) ∷ []) ∙ ap (λ a. front ++ (f a ∷ [])) e in
-      ap (λ r. set (front ++ r) i (f (suc i))) (drop-cons out i 0 h)
-      ∙ set_at front (get_or out i 0) (drop (suc i) out) (f (suc i)) i (front_length i)
-      ∙ rw add-one (sym (ap (λ r. r ++ drop (suc i) out) last ∙ append_snoc front (f (suc i)) (drop (suc i) out)))
-
 -- ---- filled at named places
 
 -- After i turns: for each of the first i keys a, the value of its place stands at a - 1, and beyond n the array is as it was.
@@ -118,9 +105,6 @@ pub record Written (n : ℕ) (keys : List ℕ) (v : ℕ → ℕ) (found out : Li
   pub long : length out ≡ length found
   pub wrote : (j : ℕ) → j < i → get_or out (pred (get_or keys j 0)) 0 ≡ v j
   pub kept : (k : ℕ) → n ≤ k → get_or out k 0 ≡ get_or found k 0
-
-pub written_none : (n : ℕ) (keys : List ℕ) (v : ℕ → ℕ) (found : List ℕ) → Written n keys v found found 0
-written_none n keys v found = record { within = omega arith; long = refl; wrote = λ j h. absurd (omega arith); kept = λ k h. refl }
 
 module _ (n : ℕ) (keys : List ℕ) (v : ℕ → ℕ) (found out : List ℕ) (i : ℕ)
     (one : OneToN n keys) (room : n ≤ length found) (w : Written n keys v found out i) where
@@ -183,3 +167,35 @@ module _ (f : ℕ → ℕ) (xs : List ℕ) (i : ℕ) (h : i < length xs) where
       ∙ sym (append_snoc (map f (take i xs)) (f x) rest)
       ∙ ap (λ l. l ++ rest) (sym (map-append f (take i xs) (x ∷ [])))
       ∙ rw (add-one i, take-suc xs i 0 h) refl
+
+-- all of the first n entries are written over, and what stands beyond them is as it was
+pub along-all : (f : ℕ → ℕ) (n i : ℕ) (xs : List ℕ) → length (take n xs) ≤ i → along f i (take n xs) ++ drop n xs ≡ along f n xs
+along-all f n i xs h =
+    rw (take_all i (take n xs) h, drop_of_length-le (take n xs) h) (ap (λ l. l ++ drop n xs) (append-nil (map f (take n xs))))
+
+-- ---- links copied over the front of an array
+
+module _ (links out : List ℕ) (n : ℕ) (h : n ≤ length links) where
+  links_along : map (to links) (range 1 n) ≡ take n links
+  links_along =
+      ext_get_or 0 (map (to links) (range 1 n)) (take n links) (front_length (to links) n ∙ sym (length-take-le n links h))
+      (λ k u. let l : k < n = omega (arith, front_length (to links) n) in
+      get_d_filled-range (to links) 1 n k l ∙ here k ∙ sym (get_or-take n links k 0 l))
+    where
+      here : (k : ℕ) → to links (1 + k) ≡ get_or links k 0
+      here k = let e : 1 + k ≡ suc k = omega arith in ap (to links) e
+
+  pub copied_front : take n (take n links ++ drop n out) ≡ take n links
+  copied_front =
+      let long = length-take-le n links h in
+      take-append-le n (take n links) (drop n out) (omega arith) ∙ take_all n (take n links) (omega arith)
+
+  pub copied_leaves : n ≤ 512 → Each (λ a. Leaf n (to links a)) (range 1 n) → Each (Leaf 512) (take n (take n links ++ drop n out))
+  copied_leaves few each =
+      rw (copied_front, ← links_along) (each_map (map (to links) (range 1 n)) (λ a l. (l.0, omega (arith, l.1)))
+      (each_mapped (Leaf n) (to links) (range 1 n) each))
+
+  pub copied_along : (f : ℕ → ℕ) → along f n (take n links ++ drop n out) ≡ filled (λ a. f (to links a)) n out
+  copied_along f =
+      rw (copied_front, drop-append-drop n out (take n links) n (omega arith) (length-take-le n links h), ← links_along)
+      (ap (λ l. l ++ drop n out) (map-map f (to links) (range 1 n)))

@@ -4,47 +4,35 @@ ghost use Rattle.tanglegram.specs.Crossings.{back, to};
 ghost use Rattle.tanglegram.specs.Lists.{place, range, Each};
 ghost use Rattle.work_places.specs.Arrays.{OneToN, Leaf, along, at, filled};
 
-// An entry as an index.
-pub fn wide(x: u16) -> usize
-    ensures { result ≡ x }
-{
-    x as usize
-}
-
 // What an array by leaf has for leaf a.
 pub fn entry_of(xs: &[u16; 512], a: u16) -> usize
     requires { Leaf 512 a }
     ensures { result ≡ at xs.now a }
 {
-    let i = a as usize - 1;
-    wide(xs[i])
+    usize::from(xs[usize::from(a) - 1])
 }
 
 // Writes the place of each leaf in an order of the leaves 1 to n.
+// `near_ends` walks likewise, but what it writes stands in an array, and here it is counted: one function for both would take
+// an iterator over what is written, and be no plainer than two loops of a line.
 pub fn places(order: &[u16; 512], n: usize, out: &mut [u16; 512])
     requires { (n ≤ 512) × (n ≤ length out.old) × OneToN n order.now }
     ensures { out.new ≡ filled (place (take n order.now)) n out.old }
 {
-    let mut i = 0;
-    while i < n {
-        let a = wide(order[i]);
-        out[a - 1] = i as u16;
-        i += 1;
+    for (i, a) in order[..n].iter().enumerate() {
+        out[usize::from(*a) - 1] = i as u16;
     }
 }
 
-// Writes for each left leaf a the place of its link's right end: what the array by right leaf has for p(a).
+// Writes for each left leaf a the place of its link's right end: what the array by right leaf has for p(a). It reads where the
+// link leads, and `near_ends` writes there, so neither can be said by the other.
 pub fn far_ends(links: &[u16; 512], places: &[u16; 512], n: usize, out: &mut [u16; 512])
     requires { (n ≤ 512) × (n ≤ length out.old) × Each (λ a. Leaf n (to links.now a)) (range 1 n) }
     ensures { out.new
         ≡ filled (λ a. at places.now (to links.now a)) n out.old }
 {
-    let mut i = 0;
-    while i < n {
-        let c = wide(links[i]);
-        out[i] = places[c - 1];
-        i += 1;
-    }
+    out[..n].copy_from_slice(&links[..n]);
+    entries_along(places, n, out);
 }
 
 // Writes for each right leaf the place of its link's left end: at p(a), what the array by left leaf has for a.
@@ -53,11 +41,8 @@ pub fn near_ends(links: &[u16; 512], places: &[u16; 512], n: usize, out: &mut [u
     ensures { out.new
         ≡ filled (λ c. at places.now (back (take n links.now) c)) n out.old }
 {
-    let mut i = 0;
-    while i < n {
-        let c = wide(links[i]);
-        out[c - 1] = places[i];
-        i += 1;
+    for (c, p) in links[..n].iter().zip(places) {
+        out[usize::from(*c) - 1] = *p;
     }
 }
 
@@ -66,10 +51,7 @@ pub fn entries_along(xs: &[u16; 512], n: usize, list: &mut [u16; 512])
     requires { (n ≤ 512) × (n ≤ length list.old) × Each (Leaf 512) (take n list.old) }
     ensures { list.new ≡ along (at xs.now) n list.old }
 {
-    let mut i = 0;
-    while i < n {
-        let a = wide(list[i]);
-        list[i] = xs[a - 1];
-        i += 1;
+    for a in &mut list[..n] {
+        *a = xs[usize::from(*a) - 1];
     }
 }

@@ -4,4 +4,4 @@
 
 mod leaves;
 
-pub use leaves::{entries_along, entry_of, far_ends, near_ends, places, wide};
+pub use leaves::{entries_along, entry_of, far_ends, near_ends, places};

@@ -61,8 +61,9 @@ impl Seen {
     {
         let k = p / 64;
         let mut n = ones_after(self.words[k], p % 64);
-        for w in &self.words[k + 1..] {
-            n += ones(*w);
+        // A walk over `&self.words[k + 1..]` was tried: with it a count takes a third longer, since here the loop is unrolled.
+        for i in k + 1..8 {
+            n += ones(self.words[i]);
         }
         n
     }

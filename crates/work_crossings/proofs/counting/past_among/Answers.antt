@@ -1,42 +1,16 @@
-use Rattle.std.proofs.Common.{[], ap, ap₂, arith, drop, get_or-drop, length-drop, refl, sym, take, ◌+◌, ◌∙◌, ◌∷◌, ◌≡◌}
-use Rattle.tanglegram.specs.Crossings.{across}
+-- `past_among` meets its contract: it is the sum along the run.
+use Rattle.std.proofs.Common.{arith, rules, ◌∙◌}
+use Rattle.std.proofs.lemmas.Iterator.{YieldsList-from_map, YieldsList-from_slice}
+use Rattle.std.proofs.lemmas.Iterator.Consumers.{sum_by_from_yields_List}
 use Rattle.work_places.specs.Arrays.{falls}
-use Rattle.work_crossings.proofs.Runs.{across-first}
+use Rattle.work_crossings.proofs.Runs.{falls-sum, falls-most}
 use Rattle.work_crossings.proofs.counting.past_among.Goals as goal
-
-pub loop-i-init : goal.loop-i-init
-unfolding across
-loop-i-init c = (omega arith, omega arith, refl)
-
-pub overflow_add-at : goal.overflow_add-at
-overflow_add-at c = omega arith
-
-pub offset_bounds-seen-at : goal.offset_bounds-seen-at
-offset_bounds-seen-at c = omega arith
-
-pub bounds-seen-at : goal.bounds-seen-at
-bounds-seen-at c = omega arith
-
-pub overflow_add-count : goal.overflow_add-count
-overflow_add-count c = omega arith
-
-pub overflow_add-i : goal.overflow_add-i
-overflow_add-i c = omega arith
-
-pub loop-i-smaller : goal.loop-i-smaller
-loop-i-smaller c = omega arith
-
-pub loop-i-preserved : goal.loop-i-preserved
-loop-i-preserved c =
-    let a = c.args in
-    let xs = drop a.at a.seen.now in
-    let i = c.loop-i.i in
-    let more = across-first falls xs i a.q (omega (arith, length-drop a.at a.seen.now)) in
-    let this = c.falls_to-count.ensures.0 ∙ ap (λ p. falls p a.q) (sym (get_or-drop a.at a.seen.now i 0)) in
-    (omega arith, omega arith, ap₂ ◌+◌ c.loop-i.invariant.2 this ∙ sym more)
 
 pub returns : goal.returns
 returns c =
-    let a = c.args in
-    let all : c.loop-i.i ≡ a.k = omega arith in
-    (c.loop-i.invariant.2 ∙ ap (λ j. across falls (take j (drop a.at a.seen.now)) (a.q ∷ [])) all, omega arith)
+    let run = c.args.run.now in
+    let q = c.args.q in
+    let e =
+    sum_by_from_yields_List (λ p. falls p q) run c.map.result c.sum.result c.sum.ensures.ran
+    (YieldsList-from_map _ (λ p. falls p q) (YieldsList-from_slice run cc) c.map.ensures.closure (λ x r q k. search rules)) in
+    (e ∙ falls-sum run q, omega (arith, e, falls-sum run q, falls-most run q))

@@ -1,5 +1,6 @@
 -- `worst_value` meets its contract: n(n² - 1) is n³ - n, and n³ is at most 512³.
-use Rattle.std.proofs.Common.{ap, ap₂, arith, le-mul_of_pos_right, mul-le-mul, mul-one, mul-pos, mul_assoc, suc, sym, zero, ℕ, ◌*◌, ◌-◌, ◌/◌, ◌<◌, ◌∙◌, ◌≡◌, ◌≤◌}
+use Rattle.std.proofs.Common.{ap, ap₂, arith, le-mul_of_pos_right, mul-le-mul, mul-one, mul-pos, mul_assoc, suc, sym, zero}
+use Rattle.std.proofs.Common.{ℕ, ◌*◌, ◌-◌, ◌/◌, ◌<◌, ◌∙◌, ◌≡◌, ◌≤◌}
 use native.Mathlib.Nat.{mul-sub}
 use Rattle.work_displacement.proofs.displacement.worst_value.Goals as goal
 

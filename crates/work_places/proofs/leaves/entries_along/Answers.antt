@@ -1,64 +1,44 @@
-use Rattle.std.proofs.Common.{ap, arith, get_or, refl, set, sub-one, ℕ, ◌-◌, ◌∙◌, ◌≡◌}
-use Rattle.work_places.specs.Arrays.{Leaf, along, at}
-use Rattle.work_places.proofs.Arrays.{each_entry, along-next, along-more}
-use Rattle.work_places.proofs.leaves.entries_along.Goals.{After-wide-a}
+use Rattle.std.proofs.Common.{ap, arith, get_or, get_or-take, length-take, refl, set, sub-one, take, ℕ, ◌<◌, ◌∙◌, ◌≡◌}
+use Rattle.work_places.specs.Arrays.{Leaf, at}
+use Rattle.work_places.proofs.Arrays.{each_entry, along-all, along-next, along-more}
+use Rattle.work_places.proofs.leaves.entries_along.Goals.{After-from}
 use Rattle.work_places.proofs.leaves.entries_along.Goals as goal
 
-leaf : (c : After-wide-a) →
-    let list = c.args.list.now in
-    (c.wide-a.result ≡ get_or list c.loop-i.i 0) × Leaf 512 c.wide-a.result
+-- the next entry is still as it was
+is : (c : After-from) → c.from.result ≡ get_or (take c.args.n c.args.list.now) c.loop-a.a-index 0
+is c =
+    let a = c.args in
+    let i = c.loop-a.a-index in
+    c.from.ensures ∙ ap (λ l. get_or l i 0) c.loop-a.invariant
+    ∙ along-next (at a.xs.now) (take a.n a.list.now) i c.loop-a-test.true
+
+leaf : (c : After-from) → Leaf 512 c.from.result
 leaf c =
     let a = c.args in
-    let i = c.loop-i.i in
-    let here : get_or c.loop-i.list i 0 ≡ get_or a.list.now i 0 =
-    ap (λ l. get_or l i 0) c.loop-i.invariant.1 ∙ along-next (at a.xs.now) a.list.now i (omega arith) in
-    let is = c.wide-a.ensures ∙ here in
-    (is, rw is (each_entry (Leaf 512) a.list.now a.n i (omega arith) c.requires.2 (omega arith)))
+    let i = c.loop-a.a-index in
+    let inside : i < a.n = omega (arith, c.loop-a-test.true, length-take a.n a.list.now) in
+    rw (is c, get_or-take a.n a.list.now i 0 inside) (each_entry (Leaf 512) a.list.now a.n i c.requires.1 c.requires.2 inside)
 
-pub loop-i-init : goal.loop-i-init
-loop-i-init c = (omega arith, refl)
+pub loop-a-init : goal.loop-a-init
+loop-a-init c = refl
 
-pub offset_bounds-list-i : goal.offset_bounds-list-i
-offset_bounds-list-i c = omega arith
+pub overflow_sub-a : goal.overflow_sub-a
+overflow_sub-a c = (leaf c).0
 
-pub bounds-list-i : goal.bounds-list-i
-bounds-list-i c = omega arith
+pub bounds-xs-from : goal.bounds-xs-from
+bounds-xs-from c = omega (arith, (leaf (goal.at.bounds-xs-from c).After-from).1)
 
-pub overflow_sub-list : goal.overflow_sub-list
-overflow_sub-list c = omega (arith, (leaf c).1.0)
-
-pub offset_bounds-xs-a : goal.offset_bounds-xs-a
-offset_bounds-xs-a c = omega (arith, (leaf c).1.1)
-
-pub bounds-xs-a : goal.bounds-xs-a
-bounds-xs-a c = omega (arith, (leaf (goal.at.bounds-xs-a c).After-wide-a).1.0, (leaf (goal.at.bounds-xs-a c).After-wide-a).1.1)
-
-pub offset_bounds-list-i-in-loop-i : goal.offset_bounds-list-i-in-loop-i
-offset_bounds-list-i-in-loop-i c = omega arith
-
-pub bounds-list-i-in-loop-i : goal.bounds-list-i-in-loop-i
-bounds-list-i-in-loop-i c = omega arith
-
-pub overflow_add-i : goal.overflow_add-i
-overflow_add-i c = omega arith
-
-pub loop-i-smaller : goal.loop-i-smaller
-loop-i-smaller c = omega arith
-
-pub loop-i-preserved : goal.loop-i-preserved
-loop-i-preserved c =
+pub loop-a-preserved : goal.loop-a-preserved
+loop-a-preserved c =
     let a = c.args in
-    let i = c.loop-i.i in
-    let R = at a.xs.now in (
-      omega arith,
-      ap (λ (k : ℕ). set c.loop-i.list i (get_or a.xs.now (k - 1) 0)) (leaf (goal.at.loop-i-preserved c).After-wide-a).0
-          ∙ ap (λ (k : ℕ). set c.loop-i.list i (get_or a.xs.now k 0)) (sub-one (get_or a.list.now i 0))
-          ∙ ap (λ l. set l i (R (get_or a.list.now i 0))) c.loop-i.invariant.1
-          ∙ along-more R a.list.now i (omega arith),
-    )
+    let i = c.loop-a.a-index in
+    let list = take a.n a.list.now in
+    ap (λ (k : ℕ). set c.loop-a.a-items i (get_or a.xs.now k 0)) (sub-one c.from.result)
+    ∙ ap (λ x. set c.loop-a.a-items i (at a.xs.now x)) (is (goal.at.loop-a-preserved c).After-from)
+    ∙ ap (λ l. set l i (at a.xs.now (get_or list i 0))) c.loop-a.invariant
+    ∙ along-more (at a.xs.now) list i c.loop-a-test.true
 
 pub returns : goal.returns
 returns c =
     let a = c.args in
-    let all : c.loop-i.i ≡ a.n = omega arith in
-    c.loop-i.invariant.1 ∙ ap (λ k. along (at a.xs.now) k a.list.now) all
+    rw c.loop-a.invariant (along-all (at a.xs.now) a.n c.loop-a.a-index a.list.now c.loop-a-test.false)
