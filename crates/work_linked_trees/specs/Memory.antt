@@ -2,7 +2,7 @@
 -- table that the trees and the links make (`tanglegram`).
 use Rattle.std.specs.Prelude.{ℕ, ◌≡◌, List, take}
 use Rattle.tanglegram.specs.Tree.{Tree}
-use Rattle.tanglegram.specs.Run.{Side}
+use Rattle.tanglegram.specs.declared.side.Side.{Side}
 use Rattle.tanglegram.specs.Table.{Table, Layouts, pick, linked, crossings, free}
 use Rattle.work_trees.specs.Exchange.{given_tree, LaidOut}
 use Rattle.work_trees.specs.Rows.{LeafCounts}
