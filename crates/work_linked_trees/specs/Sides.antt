@@ -35,12 +35,16 @@ pub record Stands (s s' : OneSide) : Type 0 where
 abbrev pub Linked : OneSide → OneSide → List ℕ → Type 0
 Linked l r links = InMemory (tree_in l) (tree_in r) (size l.rows.now) links l.rows.now l.lay.now r.rows.now r.lay.now
 
--- Both sides' leaf counts are at hand, a side's order, and room for the other's.
-pub record AtHand (side : Side) (l r : OneSide) : Type 0 where
+-- Both sides' leaf counts are at hand, and room for their orders.
+pub record HasCounts (l r : OneSide) : Type 0 where
   pub left_room : length l.order.now ≡ 512
   pub right_room : length r.order.now ≡ 512
-  pub order : OrderAtHand side l.rows.now l.order.now r.rows.now r.order.now
   pub counts : Counted l.rows.now l.many.now r.rows.now r.many.now
+
+-- And a side's order.
+pub record AtHand (side : Side) (l r : OneSide) : Type 0 where
+  pub order : OrderAtHand side l.rows.now l.order.now r.rows.now r.order.now
+  pub counted : HasCounts l r
 
 -- One of two sides freed: the counts before and after, and both sides afterwards.
 abbrev pub Freed : OneSide → OneSide → List ℕ → Side → ℕ → ℕ → OneSide → OneSide → Type 0

@@ -8,12 +8,11 @@ ghost use Rattle.work_trees.specs.Rows.{GoodRows, LeafCounts, size, tree_of};
 ghost use Rattle.work_places.specs.Arrays.{OneToN};
 ghost use Rattle.work_freeing.specs.Rows.{InOrder, RowsFreed};
 ghost use Rattle.work_linked_trees.specs.Memory.{InMemory, layouts_from, SideFreed};
-ghost use Rattle.work_linked_trees.specs.Sides.{AtHand, Freed, Linked, SameArrays, seen_by, Stands};
+ghost use Rattle.work_linked_trees.specs.Sides.{AtHand, Freed, HasCounts, Linked, SameArrays, seen_by, Stands};
 
 use tanglegram::Side;
 use work_freeing::{Sums, free_rows};
 use work_orders::far_of;
-use work_trees::{count_leaves, leaf_order};
 
 use crate::sides::OneSide;
 
@@ -32,7 +31,7 @@ fn free_one(side: Side, freed: &mut OneSide, standing: &mut OneSide, links: &[u1
         × (length freed.new.order.now ≡ 512) × Stands standing.old standing.new }
 {
     let n = usize::from(freed.rows[1022]);
-    leaf_order(standing.rows, standing.many, standing.order);
+    standing.walk();
     let mut far = [0u16; 512];
     far_of(side, links, standing.order, n, &mut far);
     free_rows(freed.rows, freed.many, freed.order, &far, freed.lay)
@@ -50,6 +49,27 @@ pub fn take_turn(left: &mut OneSide, right: &mut OneSide, links: &[u16; 512], si
     match side {
         Side::Left => free_one(side, left, right, links),
         Side::Right => free_one(side, right, left, links),
+    }
+}
+
+// Takes a first turn: frees a side, its own order walked before. The other side's order is at hand afterwards.
+pub fn first_turn(left: &mut OneSide, right: &mut OneSide, links: &[u16; 512], side: Side) -> Sums
+    requires in_memory { Linked left.old right.old links.now }
+    requires counts { HasCounts left.old right.old }
+    ensures side_freed { Freed left.old right.old links.now side result.before result.after left.new right.new }
+    ensures order_at_hand { AtHand (other side) left.new right.new }
+    ensures left_arrays { SameArrays left.old left.new }
+    ensures right_arrays { SameArrays right.old right.new }
+{
+    match side {
+        Side::Left => {
+            left.walk();
+            take_turn(left, right, links, side)
+        }
+        Side::Right => {
+            right.walk();
+            take_turn(left, right, links, side)
+        }
     }
 }
 
@@ -71,26 +91,10 @@ pub fn free_side<'a>(
         left.new leftlay.new right.new rightlay.new }
 {
     let mut leftmany = [0; 512];
-    count_leaves(left, &mut leftmany);
-    let mut rightmany = [0; 512];
-    count_leaves(right, &mut rightmany);
     let mut leftorder = [0; 512];
+    let mut left = OneSide::counted(left, leftlay, &mut leftmany, &mut leftorder);
+    let mut rightmany = [0; 512];
     let mut rightorder = [0; 512];
-    match side {
-        Side::Left => leaf_order(left, &leftmany, &mut leftorder),
-        Side::Right => leaf_order(right, &rightmany, &mut rightorder),
-    }
-    let mut left = OneSide {
-        rows: left,
-        lay: leftlay,
-        many: &leftmany,
-        order: &mut leftorder,
-    };
-    let mut right = OneSide {
-        rows: right,
-        lay: rightlay,
-        many: &rightmany,
-        order: &mut rightorder,
-    };
-    take_turn(&mut left, &mut right, links, side)
+    let mut right = OneSide::counted(right, rightlay, &mut rightmany, &mut rightorder);
+    first_turn(&mut left, &mut right, links, side)
 }

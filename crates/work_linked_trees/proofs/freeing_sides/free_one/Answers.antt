@@ -4,37 +4,30 @@ use Rattle.tanglegram.specs.Tree.{leaves}
 use Rattle.work_trees.specs.Rows.{size, tree_of}
 use Rattle.work_places.specs.Arrays.{OneToN}
 use Rattle.work_freeing.specs.Rows.{InOrder}
-use Rattle.work_linked_trees.proofs.OrdersAtHand.{walked, in_order_one, a_side}
+use Rattle.work_linked_trees.proofs.OrdersAtHand.{in_order_one, a_side}
 use Rattle.work_linked_trees.proofs.SideFreed.{side_once, far-apart, freed-seen}
-use Rattle.work_linked_trees.proofs.freeing_sides.free_one.Goals.{After-leaf_order}
+use Rattle.work_linked_trees.proofs.freeing_sides.free_one.Goals.{After-walk}
 use Rattle.work_linked_trees.proofs.freeing_sides.free_one.Goals as goal
 
--- the other side's order, as it was walked
-order-here : (c : After-leaf_order) → InOrder c.args.standing.now.rows.now c.leaf_order.new.out
-order-here c = walked _ c.requires.good_rows.1 _ c.requires.in_order.1 c.leaf_order.ensures
-
-one-here : (c : After-leaf_order) → OneToN (size c.args.freed.now.rows.now) c.leaf_order.new.out
-one-here c = rw c.requires.good_rows.2 at (in_order_one _ c.requires.good_rows.1 _ (order-here c))
+-- the other side's order
+one-here : (c : After-walk) → OneToN (size c.args.freed.now.rows.now) c.walk.new.self.order.now
+one-here c = rw c.requires.good_rows.2 at (in_order_one _ c.requires.good_rows.1 _ c.walk.ensures.in_order)
 
 pub far_of-requires : goal.far_of-requires
 far_of-requires c =
     rw c.from-n.ensures
-    (c.requires.good_rows.0.most, c.requires.lay_len.1, one-here (goal.at.far_of-requires c).After-leaf_order)
+    (c.requires.good_rows.0.most, c.requires.lay_len.1, one-here (goal.at.far_of-requires c).After-walk)
 
 pub free_rows-requires-clause-leaf_counts : goal.free_rows-requires-clause-leaf_counts
 free_rows-requires-clause-leaf_counts c =
     let h = rw c.from-n.ensures at c.far_of.ensures in
-    let one = one-here (goal.at.free_rows-requires-clause-leaf_counts c).After-leaf_order in
+    let one = one-here (goal.at.free_rows-requires-clause-leaf_counts c).After-walk in
     let apart = far-apart _ _ c.args.side c.requires.lay_len.1 one c.requires.good_rows.0.most h in
     (c.requires.counted.0, c.requires.in_order.0, apart)
 
 pub returns-clause-rows_freed : goal.returns-clause-rows_freed
 returns-clause-rows_freed c =
-    let order = order-here (goal.at.returns-clause-rows_freed c).After-leaf_order in
     let h = rw c.from-n.ensures at c.far_of.ensures in
-    let same = ap (λ m. take m c.leaf_order.new.out) (sym c.requires.good_rows.2) ∙ order.first in
+    let same = ap (λ m. take m c.walk.new.self.order.now) (sym c.requires.good_rows.2) ∙ c.walk.ensures.in_order.first in
     let once = side_once (a_side _ _ c.requires.good_rows.0 c.requires.lay_len.0) in
     freed-seen _ _ _ same once c.free_rows.ensures c.args.side h
-
-pub returns-clause-in_order_2 : goal.returns-clause-in_order_2
-returns-clause-in_order_2 c = order-here (goal.at.returns-clause-in_order_2 c).After-leaf_order

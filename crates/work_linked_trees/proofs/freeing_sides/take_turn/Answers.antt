@@ -17,27 +17,31 @@ returns-in-Right-clause-side_freed c =
 pub returns-in-Left-clause-order_at_hand_2 : goal.returns-in-Left-clause-order_at_hand_2
 returns-in-Left-clause-order_at_hand_2 c =
     let f = c.free_one.ensures in
-    let o = c.requires.order_at_hand in
+    let o = c.requires.order_at_hand.counted.counts in
     record {
-      left_room = f.kept.2;
-      right_room = f.in_order_2.long;
       order = rw (c.in-Left.is, f.kept.3.rows) f.in_order_2;
-      counts = rw (f.kept.1, f.kept.3.rows, f.kept.3.many) (record {
-        left_counts = f.rows_freed.counts _ o.counts.left_counts;
-        right_counts = o.counts.right_counts;
-      });
+      counted = record {
+        left_room = f.kept.2;
+        right_room = f.in_order_2.long;
+        counts = rw (f.kept.1, f.kept.3.rows, f.kept.3.many) (record {
+          left_counts = f.rows_freed.counts _ o.left_counts;
+          right_counts = o.right_counts;
+        });
+      };
     }
 
 pub returns-in-Right-clause-order_at_hand_2 : goal.returns-in-Right-clause-order_at_hand_2
 returns-in-Right-clause-order_at_hand_2 c =
     let f = c.free_one-in-Right.ensures in
-    let o = c.requires.order_at_hand in
+    let o = c.requires.order_at_hand.counted.counts in
     record {
-      left_room = f.in_order_2.long;
-      right_room = f.kept.2;
       order = rw (c.in-Right.is, f.kept.3.rows) f.in_order_2;
-      counts = rw (f.kept.1, f.kept.3.rows, f.kept.3.many) (record {
-        left_counts = o.counts.left_counts;
-        right_counts = f.rows_freed.counts _ o.counts.right_counts;
-      });
+      counted = record {
+        left_room = f.in_order_2.long;
+        right_room = f.kept.2;
+        counts = rw (f.kept.1, f.kept.3.rows, f.kept.3.many) (record {
+          left_counts = o.left_counts;
+          right_counts = f.rows_freed.counts _ o.right_counts;
+        });
+      };
     }
