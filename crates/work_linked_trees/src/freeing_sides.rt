@@ -10,11 +10,10 @@ ghost use Rattle.work_freeing.specs.Rows.{InOrder, RowsFreed};
 ghost use Rattle.work_linked_trees.specs.Memory.{InMemory, layouts_from, SideFreed};
 ghost use Rattle.work_linked_trees.specs.Sides.{AtHand, Freed, HasCounts, Linked, SameArrays, seen_by, Stands};
 
+use crate::sides::OneSide;
 use tanglegram::Side;
 use work_freeing::{Sums, free_rows};
 use work_orders::far_of;
-
-use crate::sides::OneSide;
 
 // Frees one side, by its own order and the other side's, which is written.
 fn free_one(side: Side, freed: &mut OneSide, standing: &mut OneSide, links: &[u16; 512]) -> Sums
@@ -75,12 +74,12 @@ pub fn first_turn(left: &mut OneSide, right: &mut OneSide, links: &[u16; 512], s
 
 // Frees a side, in its rows and in its layout; the other side stands. Answers the counts before and after, which are
 // the sums of the side's own crossings.
-pub fn free_side<'a>(
-    left: &'a mut [u16; 1023],
-    right: &'a mut [u16; 1023],
-    links: &'a [u16; 512],
-    leftlay: &'a mut [u8],
-    rightlay: &'a mut [u8],
+pub fn free_side(
+    left: &mut [u16; 1023],
+    right: &mut [u16; 1023],
+    links: &[u16; 512],
+    leftlay: &mut [u8],
+    rightlay: &mut [u8],
     side: Side,
 ) -> Sums
     requires in_memory { InMemory (given_tree left.old leftlay.old) (given_tree right.old rightlay.old) (size left.old)

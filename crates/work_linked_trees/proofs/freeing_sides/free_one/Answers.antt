@@ -1,9 +1,7 @@
 -- `free_one`: the other side's order is walked, the links end there, and the side's rows are freed by it.
-use Rattle.std.proofs.Common.{ap, refl, sym, take, ◌∙◌, ◌≡◌}
-use Rattle.tanglegram.specs.Tree.{leaves}
-use Rattle.work_trees.specs.Rows.{size, tree_of}
+use Rattle.std.proofs.Common.{ap, sym, take, ◌∙◌}
+use Rattle.work_trees.specs.Rows.{size}
 use Rattle.work_places.specs.Arrays.{OneToN}
-use Rattle.work_freeing.specs.Rows.{InOrder}
 use Rattle.work_linked_trees.proofs.OrdersAtHand.{in_order_one, a_side}
 use Rattle.work_linked_trees.proofs.SideFreed.{side_once, far-apart, freed-seen}
 use Rattle.work_linked_trees.proofs.freeing_sides.free_one.Goals.{After-walk}

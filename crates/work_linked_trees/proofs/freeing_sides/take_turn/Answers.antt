@@ -1,5 +1,4 @@
 -- `take_turn`: the side is freed by what it sees.
-use Rattle.std.proofs.Common.{sym}
 use Rattle.work_linked_trees.proofs.SideFreed.{left_freed, right-freed}
 use Rattle.work_linked_trees.proofs.freeing_sides.take_turn.Goals as goal
 
