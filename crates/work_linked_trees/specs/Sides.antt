@@ -1,12 +1,12 @@
 -- Two linked trees in memory, as the code holds them: a side is the arrays of one tree, and two sides are linked.
-use Rattle.std.specs.Prelude.{ℕ, ◌≡◌, length, List}
+use Rattle.std.specs.Prelude.{ℕ, ◌≡◌, List}
 use Rattle.tanglegram.specs.declared.side.Side.{Side}
 use Rattle.tanglegram.specs.Crossings.{seen_left, seen_right}
 use Rattle.tanglegram.specs.Table.{Layouts, pick}
 use Rattle.tanglegram.specs.Tree.{Tree}
 use Rattle.work_trees.specs.Exchange.{given_tree}
 use Rattle.work_trees.specs.Rows.{size}
-use Rattle.work_linked_trees.specs.Memory.{Counted, InMemory, layouts_from, OrderAtHand, SideFreed}
+use Rattle.work_linked_trees.specs.Memory.{InMemory, layouts_from, OrderAtHand, SideFreed}
 use Rattle.work_linked_trees.specs.declared.sides.OneSide.{OneSide}
 
 -- What a side sees of the other side's order: of a right order the left, of a left order the right.
@@ -24,27 +24,19 @@ layouts_in l r = layouts_from l.lay.now r.lay.now
 abbrev pub SameArrays : OneSide → OneSide → Type 0
 SameArrays s s' = (s'.rows.ghost_name ≡ s.rows.ghost_name) × (s'.lay.ghost_name ≡ s.lay.ghost_name)
 
--- A side stands while another is freed: of its arrays only the one for its order is written.
+-- A side stands while another is freed: of its arrays at most the one for its order is written.
 pub record Stands (s s' : OneSide) : Type 0 where
   pub arrays : SameArrays s s'
   pub rows : s'.rows.now ≡ s.rows.now
   pub lay : s'.lay.now ≡ s.lay.now
-  pub many : s'.many.now ≡ s.many.now
 
 -- In the arrays of two sides are the trees as given, each with its layout applied, and links one to one.
 abbrev pub Linked : OneSide → OneSide → List ℕ → Type 0
 Linked l r links = InMemory (tree_in l) (tree_in r) (size l.rows.now) links l.rows.now l.lay.now r.rows.now r.lay.now
 
--- Both sides' leaf counts are at hand, and room for their orders.
-pub record HasCounts (l r : OneSide) : Type 0 where
-  pub left_room : length l.order.now ≡ 512
-  pub right_room : length r.order.now ≡ 512
-  pub counts : Counted l.rows.now l.many.now r.rows.now r.many.now
-
--- And a side's order.
-pub record AtHand (side : Side) (l r : OneSide) : Type 0 where
-  pub order : OrderAtHand side l.rows.now l.order.now r.rows.now r.order.now
-  pub counted : HasCounts l r
+-- A side's order is at hand.
+abbrev pub AtHand : Side → OneSide → OneSide → Type 0
+AtHand side l r = OrderAtHand side l.rows.now l.order.now r.rows.now r.order.now
 
 -- One of two sides freed: the counts before and after, and both sides afterwards.
 abbrev pub Freed : OneSide → OneSide → List ℕ → Side → ℕ → ℕ → OneSide → OneSide → Type 0

@@ -8,7 +8,7 @@ ghost use Rattle.work_trees.specs.Rows.{GoodRows, LeafCounts, size, tree_of};
 ghost use Rattle.work_places.specs.Arrays.{OneToN};
 ghost use Rattle.work_freeing.specs.Rows.{InOrder, RowsFreed};
 ghost use Rattle.work_linked_trees.specs.Memory.{InMemory, layouts_from, SideFreed};
-ghost use Rattle.work_linked_trees.specs.Sides.{AtHand, Freed, HasCounts, Linked, SameArrays, seen_by, Stands};
+ghost use Rattle.work_linked_trees.specs.Sides.{AtHand, Freed, Linked, SameArrays, seen_by, Stands};
 
 use crate::sides::OneSide;
 use tanglegram::Side;
@@ -17,17 +17,13 @@ use work_orders::far_of;
 
 // Frees one side, by its own order and the other side's, which is written.
 fn free_one(side: Side, freed: &mut OneSide, standing: &mut OneSide, links: &[u16; 512]) -> Sums
-    requires good_rows { GoodRows freed.old.rows.now × GoodRows standing.old.rows.now
-        × (size standing.old.rows.now ≡ size freed.old.rows.now) }
-    requires lay_len { (length freed.old.lay.now + 1 ≡ size freed.old.rows.now) × OneToN (size freed.old.rows.now) links.now }
-    requires in_order { InOrder freed.old.rows.now freed.old.order.now × (length standing.old.order.now ≡ 512) }
-    requires counted { LeafCounts freed.old.rows.now freed.old.many.now × LeafCounts standing.old.rows.now standing.old.many.now }
+    requires linked { (size standing.old.rows.now ≡ size freed.old.rows.now) × OneToN (size freed.old.rows.now) links.now }
+    requires in_order { InOrder freed.old.rows.now freed.old.order.now }
     ensures rows_freed { RowsFreed
         (seen_by side (take (size freed.old.rows.now) links.now) (leaves (tree_of standing.old.rows.now)))
         freed.old.rows.now freed.old.lay.now result.before result.after freed.new.rows.now freed.new.lay.now }
     ensures in_order_2 { InOrder standing.old.rows.now standing.new.order.now }
-    ensures kept { SameArrays freed.old freed.new × (freed.new.many.now ≡ freed.old.many.now)
-        × (length freed.new.order.now ≡ 512) × Stands standing.old standing.new }
+    ensures kept { SameArrays freed.old freed.new × Stands standing.old standing.new }
 {
     let n = usize::from(freed.rows[1022]);
     standing.walk();
@@ -54,7 +50,6 @@ pub fn take_turn(left: &mut OneSide, right: &mut OneSide, links: &[u16; 512], si
 // Takes a first turn: frees a side, its own order walked before. The other side's order is at hand afterwards.
 pub fn first_turn(left: &mut OneSide, right: &mut OneSide, links: &[u16; 512], side: Side) -> Sums
     requires in_memory { Linked left.old right.old links.now }
-    requires counts { HasCounts left.old right.old }
     ensures side_freed { Freed left.old right.old links.now side result.before result.after left.new right.new }
     ensures order_at_hand { AtHand (other side) left.new right.new }
     ensures left_arrays { SameArrays left.old left.new }
