@@ -10,7 +10,7 @@ use work_trees::{flipped, may_change};
 // `at` on, and those under its second entry right after them. Each pair of one and the other crosses in just one of the
 // two arrangements, so that counting either is enough: the one whose outer loop goes over the shorter run.
 pub fn own_crossings(seen: &[u16; 512], at: usize, first: usize, second: usize) -> u32
-    requires second_bound { (at + first + second ≤ 512) × (length seen.now ≡ 512) }
+    requires second_bound { at + first + second ≤ 512 }
     requires second_value { as_it_stands seen.now at first second + the_other seen.now at first second ≡ first * second }
     ensures { result ≡ as_it_stands seen.now at first second }
 {
@@ -39,8 +39,6 @@ pub fn decide(rows: &mut [u16; 1023], lay: &mut [u8], row: usize, count: u32, ot
         return count;
     }
     lay[row - 1] = flipped(x);
-    let a = rows[2 * row - 2];
-    rows[2 * row - 2] = rows[2 * row - 1];
-    rows[2 * row - 1] = a;
+    rows.swap(2 * row - 2, 2 * row - 1);
     other
 }

@@ -64,6 +64,11 @@ own-counted p e = record {
 }
 
 -- by numbers that were told
+pub own-told : {far W seen : List ℕ} {i k first second k' f s x y : ℕ} → ChildrenStand far W seen i k first second →
+    k' ≡ k → f ≡ first → s ≡ second → x ≡ first → y ≡ second → {count : ℕ} → count ≡ as_it_stands seen k' f s →
+    Own (inverted (at far)) W i count (x * y - count)
+own-told p a b c d e h = rw (d, e) (own-counted p (rw (a, b, c) at h))
+
 pub parts-told : {far W seen : List ℕ} {i k first second f s : ℕ} → ChildrenStand far W seen i k first second → f ≡ first → s ≡ second →
     ChildrenStand far W seen i k f s
 parts-told p e h = rw (e, h) p

@@ -8,7 +8,7 @@ ghost use Rattle.work_places.specs.Arrays.{at};
 ghost use Rattle.work_freeing.specs.Rows.{Apart, InOrder, RowsFreed};
 
 use work_deciding::{decide, own_crossings};
-use work_places::{entries_along, wide};
+use work_places::entries_along;
 use work_trees::{leaves_under, note_places};
 
 // Crossings, summed over the rows of a side: as they stand, and after freeing.
@@ -37,28 +37,24 @@ pub fn free_rows(
         result.before result.after rows.new lay.new }
 {
     let n = rows[1022];
+    let leaves = usize::from(n);
     let mut from = [n; 1024];
     note_places(order, n, &mut from);
     let mut seen = *order;
-    entries_along(far, n as usize, &mut seen);
+    entries_along(far, leaves, &mut seen);
     let mut before: u32 = 0;
     let mut after: u32 = 0;
-    let mut row = 1;
-    while row <= lay.len() {
-        let a = wide(rows[2 * row - 2]);
-        let b = wide(rows[2 * row - 1]);
+    for row in 1..leaves {
+        let a = usize::from(rows[2 * row - 2]);
+        let b = usize::from(rows[2 * row - 1]);
         let at = from[a];
-        let first = leaves_under(many, n as usize, a);
-        let second = leaves_under(many, n as usize, b);
-        let count = own_crossings(&seen, at as usize, first as usize, second as usize);
-        let other = first as u32 * second as u32 - count;
-        from[n as usize + row] = at;
+        let first = leaves_under(many, leaves, a);
+        let second = leaves_under(many, leaves, b);
+        let count = own_crossings(&seen, usize::from(at), usize::from(first), usize::from(second));
+        let other = u32::from(first) * u32::from(second) - count;
+        from[leaves + row] = at;
         before += count;
         after += decide(rows, lay, row, count, other);
-        row += 1;
     }
-    Sums {
-        before: before,
-        after: after,
-    }
+    Sums { before, after }
 }

@@ -1,6 +1,6 @@
 -- A side in memory is freed: by the far places of its leaves' links it is freed as its table says, and the sums of its rows' own
 -- crossings are the counts. Over any fair table; two linked trees in memory are one.
-use Prim.Native.Nat.{ℕ, pred}
+use Prim.Native.Nat.{ℕ, pred, ◌≤◌}
 use mathlib.Core.Path.{◌≡◌, refl, sym, ap, subst, ◌∙◌}
 use mathlib.Core.List.Permᴰ
 use mathlib.Core.List.{List, Permᴰ}
@@ -20,9 +20,12 @@ use Rattle.tanglegram.proofs.Table.{count-own, count-put, linked_fair}
 use Rattle.work_trees.specs.Rows.{upper, lower, size, tree_of, GoodRows}
 use Rattle.work_trees.specs.Exchange.{exchanged, given_tree, LaidOut}
 use Rattle.work_trees.proofs.Laid.{exchanged-good, exchanged-size, laid_out_order}
-use Rattle.work_places.specs.Arrays.{at, begin, Has}
-use Rattle.work_freeing.specs.Rows.{RowsFreed}
+use Rattle.work_places.specs.Arrays.{at, begin, Has, OneToN}
+use Rattle.work_crossings.proofs.Count.{far_apart, near_apart}
+use Rattle.work_orders.specs.Ends.{far_end}
+use Rattle.work_freeing.specs.Rows.{Apart, RowsFreed}
 use Rattle.work_linked_trees.specs.Memory.{layouts_from, table_from, InMemory, SideFreed, here}
+use Rattle.work_linked_trees.specs.Sides.{seen_by}
 
 -- ---- a side in memory is a tree over its leaves
 
@@ -65,13 +68,19 @@ freed-by {n} {far} {W} {lay} {W'} {lay'} f holds once r =
     }
 
 -- by where the links end in an order of the other side
-module _ {n : ℕ} {far W lay W' lay' : List ℕ} {before after : ℕ} (ps τ σ : List ℕ) (same : τ ≡ σ)
-    (once : Permᴰ (leaves (given_tree W lay)) (range 1 n)) (r : RowsFreed (inverted (at far)) W lay before after W' lay') where
-  pub freed-seen-left : Has n far (end ps τ) → RowsFreed (seen_left ps σ) W lay before after W' lay'
-  freed-seen-left h = subst (λ x. RowsFreed (seen_left ps x) W lay before after W' lay') same (freed-by (end ps τ) h once r)
+pub freed-seen : {n : ℕ} {far W lay W' lay' : List ℕ} {before after : ℕ} (ps τ σ : List ℕ) → τ ≡ σ →
+    Permᴰ (leaves (given_tree W lay)) (range 1 n) → RowsFreed (inverted (at far)) W lay before after W' lay' →
+    (side : Side) → Has n far (far_end side ps τ) → RowsFreed (seen_by side ps σ) W lay before after W' lay'
+freed-seen {W} {lay} {W'} {lay'} {before} {after} ps τ σ same once r left h =
+    subst (λ x. RowsFreed (seen_left ps x) W lay before after W' lay') same (freed-by (end ps τ) h once r)
+freed-seen {W} {lay} {W'} {lay'} {before} {after} ps τ σ same once r right h =
+    subst (λ x. RowsFreed (seen_right ps x) W lay before after W' lay') same (freed-by (begin ps τ) h once r)
 
-  pub freed-seen-right : Has n far (begin ps τ) → RowsFreed (seen_right ps σ) W lay before after W' lay'
-  freed-seen-right h = subst (λ x. RowsFreed (seen_right ps x) W lay before after W' lay') same (freed-by (begin ps τ) h once r)
+-- such ends are apart
+pub far-apart : {n : ℕ} {far : List ℕ} (links order : List ℕ) (side : Side) → OneToN n links → OneToN n order → n ≤ 512 →
+    Has n far (far_end side (take n links) (take n order)) → Apart n far
+far-apart _ _ left l o most h = far_apart _ _ _ _ h l o most
+far-apart _ _ right l o most h = near_apart _ _ _ _ l h o most
 
 -- ---- over a fair table
 
@@ -160,3 +169,9 @@ pub count-freed : {t u : Tree} {n : ℕ} {links L l R r : List ℕ} {side : Side
     after ≡ crossings (table_from (size L) links L l R r) (layouts_from l r)
 count-freed {t} {u} {n} {links} {L} {l} {R} {r} f =
     f.recounted ∙ ap (crossings (here t u n links)) (sym f.afterwards) ∙ sym (count-now f.in_memory (layouts_from l r))
+
+-- the arrays that were lent have what the sides left in them
+pub lent-back : {t u : Tree} {n : ℕ} {links L l R r L' l' R' r' : List ℕ} {side : Side} {s : Layouts} {before after : ℕ} →
+    SideFreed t u n links side s before after L l R r → L' ≡ L → l' ≡ l → R' ≡ R → r' ≡ r →
+    SideFreed t u n links side s before after L' l' R' r'
+lent-back f a b c d = rw (a, b, c, d) f

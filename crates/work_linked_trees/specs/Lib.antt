@@ -1,1 +1,3 @@
 pub mod Memory
+pub mod Once
+pub mod Sides

@@ -5,7 +5,6 @@ use Rattle.tanglegram.specs.Tree.{Tree}
 use Rattle.tanglegram.specs.declared.side.Side.{Side}
 use Rattle.tanglegram.specs.Table.{Table, Layouts, pick, linked, crossings, free}
 use Rattle.work_trees.specs.Exchange.{given_tree, LaidOut}
-use Rattle.work_trees.specs.Rows.{LeafCounts}
 use Rattle.work_places.specs.Arrays.{OneToN}
 use Rattle.work_freeing.specs.Rows.{InOrder}
 
@@ -25,11 +24,6 @@ pub record InMemory (t u : Tree) (n : ℕ) (links L l R r : List ℕ) : Type 0 w
 -- A side's order is at hand: its array has the leaves in its first places.
 abbrev pub OrderAtHand : Side → List ℕ → List ℕ → List ℕ → List ℕ → Type 0
 OrderAtHand side L lo R ro = InOrder (pick L R side) (pick lo ro side)
-
--- Both sides' leaf counts are at hand.
-pub record Counted (L lm R rm : List ℕ) : Type 0 where
-  pub left_counts : LeafCounts L lm
-  pub right_counts : LeafCounts R rm
 
 -- A side freed, from the layouts `at`: the counts before and after, the layouts, and the arrays afterwards.
 module _ (t u : Tree) (n : ℕ) (links : List ℕ) where

@@ -3,5 +3,7 @@
 #![tactic(auto)]
 
 mod freeing_sides;
+pub mod sides;
 
-pub use freeing_sides::{free_side, take_turn};
+pub use freeing_sides::{first_turn, free_side, take_turn};
+pub use sides::OneSide;

@@ -6,4 +6,4 @@ mod between;
 mod ends;
 
 pub use between::{crossings_paired, crossings_seen, displacement_of};
-pub use ends::{far_of_left, far_of_right};
+pub use ends::far_of;

@@ -1,1 +1,2 @@
+pub mod Alternating
 pub mod TurnsTaken

@@ -1,5 +1,6 @@
--- Turns from the arrays as they are are turns from the trees as given.
+-- Turns from the arrays as they are are turns from the trees as given, and end in the arrays that were lent.
 use Prim.Native.Nat.{ℕ}
+use mathlib.Core.Path.{◌≡◌}
 use mathlib.Core.List.{List}
 use Rattle.tanglegram.specs.Tree.{Tree}
 use Rattle.tanglegram.specs.Table.{Layouts}
@@ -18,3 +19,9 @@ module _ {t u : Tree} {n : ℕ} {links L l R r : List ℕ} (m : InMemory t u n l
       RunTaken (given_tree L l) (given_tree R r) (size L) links s allowance first last turns settled L' l' R' r' →
       RunTaken t u n links s allowance first last turns settled L' l' R' r'
   run_then f = rw (m.left_side.tree, m.right_side.tree, m.left_side.sized) at f
+
+-- the arrays that were lent have what the sides left in them
+pub lent-back : {t u : Tree} {n : ℕ} {links L l R r L' l' R' r' : List ℕ} {s : Layouts} {allowance first last turns settled : ℕ} →
+    RunTaken t u n links s allowance first last turns settled L l R r → L' ≡ L → l' ≡ l → R' ≡ R → r' ≡ r →
+    RunTaken t u n links s allowance first last turns settled L' l' R' r'
+lent-back f a b c d = rw (a, b, c, d) f

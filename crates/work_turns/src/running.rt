@@ -1,79 +1,70 @@
 // A run: turns alternate, the left first, until one other than turn 1 gains nothing or the allowance is used up.
-ghost use Rattle.std.specs.Prelude.{◌≡◌, ◌≤◌, length};
-ghost use Rattle.tanglegram.specs.Sides.{side_of};
+ghost use Rattle.std.specs.Prelude.{◌≡◌, ◌≤◌};
+ghost use Rattle.tanglegram.specs.Lists.{bit};
 ghost use Rattle.tanglegram.specs.Table.{crossings};
+ghost use Rattle.tanglegram.specs.declared.side.Side.TheVariants.{Right as right_side};
 ghost use Rattle.work_trees.specs.Exchange.{given_tree};
 ghost use Rattle.work_trees.specs.Rows.{size};
-ghost use Rattle.work_linked_trees.specs.Memory.{Counted, InMemory, layouts_from, OrderAtHand, table_from};
+ghost use Rattle.work_linked_trees.specs.Memory.{InMemory, layouts_from, table_from};
+ghost use Rattle.work_linked_trees.specs.Sides.{AtHand, layouts_in, Linked, SameArrays, tree_in};
 ghost use Rattle.work_turns.specs.Taken.{GoneOn, RunTaken};
 
-use work_linked_trees::take_turn;
-use work_trees::{count_leaves, leaf_order};
+use tanglegram::Side;
+use work_freeing::Sums;
+use work_linked_trees::{OneSide, first_turn, take_turn};
 
-// What a run's turns come to: the first and the last count, the turns taken, and 1 if it settled or 0 if not.
+// What a run's turns come to: the first and the last count, the turns taken, and whether it settled.
 #[derive(Drop)]
 pub struct Taken {
     pub first: u32,
     pub last: u32,
     pub turns: u32,
-    pub settled: u32,
+    pub settled: bool,
 }
 
-// Takes the turns after the first, whose counts are given, the right next.
+// Takes the turns after the first, which came to `turn`, the right next.
 fn go_on(
-    left: &mut [u16; 1023],
-    right: &mut [u16; 1023],
+    left: &mut OneSide,
+    right: &mut OneSide,
     links: &[u16; 512],
-    leftlay: &mut [u8],
-    rightlay: &mut [u8],
-    leftmany: &[u16; 512],
-    rightmany: &[u16; 512],
-    leftorder: &mut [u16; 512],
-    rightorder: &mut [u16; 512],
-    first: u32,
-    count: u32,
+    turn: Sums,
     allowance: u32,
 ) -> Taken
-    requires in_memory { InMemory (given_tree left.old leftlay.old) (given_tree right.old rightlay.old) (size left.old)
-        links.now left.old leftlay.old right.old rightlay.old }
-    requires leftorder_len { (length leftorder.old ≡ 512) × (length rightorder.old ≡ 512)
-        × OrderAtHand (side_of 2) left.old leftorder.old right.old rightorder.old
-        × Counted left.old leftmany.now right.old rightmany.now }
-    requires count_value { (count ≡ crossings
-        (table_from (size left.old) links.now left.old leftlay.old right.old rightlay.old)
-        (layouts_from leftlay.old rightlay.old))
+    requires in_memory { Linked left.old right.old links.now }
+    requires order_at_hand { AtHand right_side left.old right.old }
+    requires count_value { (turn.after ≡ crossings
+        (table_from (size left.old.rows.now) links.now left.old.rows.now left.old.lay.now right.old.rows.now right.old.lay.now)
+        (layouts_in left.old right.old))
         × (1 ≤ allowance) }
-    ensures { GoneOn (given_tree left.old leftlay.old)
-        (given_tree right.old rightlay.old)
-        (size left.old) links.now (layouts_from leftlay.old rightlay.old)
-        allowance result.last result.turns result.settled
-        left.new leftlay.new right.new rightlay.new
-        × (result.first ≡ first) }
+    ensures gone_on { GoneOn (tree_in left.old) (tree_in right.old)
+        (size left.old.rows.now) links.now (layouts_in left.old right.old)
+        allowance result.last result.turns (bit result.settled)
+        left.new.rows.now left.new.lay.now right.new.rows.now right.new.lay.now }
+    ensures first { result.first ≡ turn.before }
+    ensures left_arrays { SameArrays left.old left.new }
+    ensures right_arrays { SameArrays right.old right.new }
 {
-    let mut last = count;
-    let mut turns: u32 = 1;
-    let mut side: u16 = 2;
-    while turns < allowance {
-        let turn = take_turn(
-            left, right, links, leftlay, rightlay, leftmany, rightmany, leftorder, rightorder, side,
-        );
+    let first = turn.before;
+    let mut last = turn.after;
+    let mut side = Side::Right;
+    for taken in 1..allowance {
+        let turn = take_turn(left, right, links, side);
         last = turn.after;
-        turns += 1;
         if turn.before <= last {
             return Taken {
-                first: first,
-                last: last,
-                turns: turns,
-                settled: 1,
+                first,
+                last,
+                turns: taken + 1,
+                settled: true,
             };
         }
-        side = 3 - side;
+        side = side.other();
     }
     Taken {
-        first: first,
-        last: last,
-        turns: turns,
-        settled: 0,
+        first,
+        last,
+        turns: allowance,
+        settled: false,
     }
 }
 
@@ -92,40 +83,15 @@ pub fn take_turns(
     ensures { RunTaken (given_tree left.old leftlay.old)
         (given_tree right.old rightlay.old) (size left.old) links.now
         (layouts_from leftlay.old rightlay.old) allowance
-        result.first result.last result.turns result.settled
+        result.first result.last result.turns (bit result.settled)
         left.new leftlay.new right.new rightlay.new }
 {
-    let mut leftmany = [0u16; 512];
-    count_leaves(left, &mut leftmany);
-    let mut rightmany = [0u16; 512];
-    count_leaves(right, &mut rightmany);
-    let mut leftorder = [0u16; 512];
-    leaf_order(left, &leftmany, &mut leftorder);
-    let mut rightorder = [0u16; 512];
-    let turn = take_turn(
-        left,
-        right,
-        links,
-        leftlay,
-        rightlay,
-        &leftmany,
-        &rightmany,
-        &mut leftorder,
-        &mut rightorder,
-        1,
-    );
-    go_on(
-        left,
-        right,
-        links,
-        leftlay,
-        rightlay,
-        &leftmany,
-        &rightmany,
-        &mut leftorder,
-        &mut rightorder,
-        turn.before,
-        turn.after,
-        allowance,
-    )
+    let mut leftmany = [0; 512];
+    let mut leftorder = [0; 512];
+    let mut left = OneSide::counted(left, leftlay, &mut leftmany, &mut leftorder);
+    let mut rightmany = [0; 512];
+    let mut rightorder = [0; 512];
+    let mut right = OneSide::counted(right, rightlay, &mut rightmany, &mut rightorder);
+    let turn = first_turn(&mut left, &mut right, links, Side::Left);
+    go_on(&mut left, &mut right, links, turn, allowance)
 }

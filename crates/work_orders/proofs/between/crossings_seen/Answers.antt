@@ -8,10 +8,10 @@ count_seen-requires c =
     let b = c.requires in
     record {
       n_bound = (b.most, b.left_order);
-      each = far_apart _ _ _ _ c.far_of_left.ensures.0 b.linked b.right_order b.most;
+      each = far_apart _ _ _ _ c.far_of.ensures b.linked b.right_order b.most;
     }
 
 pub returns : goal.returns
 returns c =
     let b = c.requires in
-    c.count_seen.ensures ∙ count-seen-left _ _ _ _ c.far_of_left.ensures.0 _ b.left_order
+    c.count_seen.ensures ∙ count-seen-left _ _ _ _ c.far_of.ensures _ b.left_order

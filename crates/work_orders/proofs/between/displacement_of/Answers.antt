@@ -1,16 +1,15 @@
 -- `displacement_of`: the places of both ends of each link are those of the two orders.
 use Rattle.std.proofs.Common.{◌∙◌}
-use Rattle.work_places.proofs.Has.{filled-has}
 use Rattle.work_crossings.proofs.Count.{displaced-is, ends-below}
 use Rattle.work_orders.proofs.between.displacement_of.Goals as goal
 
 pub displaced-requires : goal.displaced-requires
 displaced-requires c =
     let b = c.requires in
-    let h = filled-has _ _ _ _ c.places.ensures in
-    (b.most, ends-below _ _ _ _ _ _ h c.far_of_left.ensures.0 b.linked b.left_order b.right_order b.most)
+    let f = c.fill.ensures in
+    (b.most, ends-below _ _ _ _ _ _ f.0 f.1 b.linked b.left_order b.right_order b.most)
 
 pub returns : goal.returns
 returns c =
-    let b = c.requires in
-    c.displaced.ensures ∙ displaced-is _ _ _ _ _ _ (filled-has _ _ _ _ c.places.ensures) c.far_of_left.ensures.0
+    let f = c.fill.ensures in
+    c.displaced.ensures ∙ displaced-is _ _ _ _ _ _ f.0 f.1
