@@ -39,7 +39,7 @@ pub fn bad_row_in(list: &[u16], n: u16) -> Option<u16>
     requires { (1 ≤ n) × (n ≤ most_leaves) × (length list.now ≡ 2 * (n - 1)) }
     ensures { result ≡ row_found (bad_row n (upper list.now) (lower list.now)) }
 {
-    bad_row(list, n as usize)
+    bad_row(&list, n as usize)
 }
 
 // Whether no byte is above 3.

@@ -19,10 +19,10 @@ pub fn read_layout(rows: &[u16; 1023], xs: &[u16; 512], lay: &mut [u8])
     let mut at = [n; 1024];
     note_places(xs, n, &mut at);
     for (i, x) in lay.iter_mut().enumerate() {
-        let a = at[usize::from(rows[2 * i])];
-        let b = at[usize::from(rows[2 * i + 1])];
-        *x = u8::from(b < a);
-        at[usize::from(n) + i + 1] = a;
+        let upper = at[usize::from(rows[2 * i])];
+        let lower = at[usize::from(rows[2 * i + 1])];
+        *x = u8::from(lower < upper);
+        at[usize::from(n) + i + 1] = upper;
     }
 }
 

@@ -53,20 +53,20 @@ word w i j (suc d) h =
     ap₂ (λ (x y : ℕ). x + y) (marked-at w i j (omega arith))
     (ap (λ (n : ℕ). sum (marked w) (range n d)) (sym (add-suc (64 * i) j)) ∙ word w i (suc j) d (omega arith))
 
--- what stands past p in its own word, before word i
-pub first_word : (w : List ℕ) (p i : ℕ) → i ≡ p / 64 + 1 →
-    sum (digit (get_or w (p / 64) 0)) (range (suc (p % 64)) (63 - p % 64)) ≡ sum (marked w) (range (suc p) (64 * i - suc p))
-first_word w p i e =
+-- what stands past p in its own word
+pub first_word : (w : List ℕ) (p : ℕ) →
+    sum (digit (get_or w (p / 64) 0)) (range (suc (p % 64)) (63 - p % 64)) ≡ sum (marked w) (range (suc p) (64 * (p / 64 + 1) - suc p))
+first_word w p =
     let from : 64 * (p / 64) + suc (p % 64) ≡ suc p = omega arith in
-    let d : 63 - p % 64 ≡ 64 * i - suc p = omega arith in
+    let d : 63 - p % 64 ≡ 64 * (p / 64 + 1) - suc p = omega arith in
     sym (word w (p / 64) (suc (p % 64)) (63 - p % 64) (omega arith)) ∙ ap₂ (λ (a d : ℕ). sum (marked w) (range a d)) from d
 
 -- one word more
-pub next : (w : List ℕ) (p i k n m : ℕ) → p < 64 * i → k ≡ i + 1 → n ≡ sum (marked w) (range (suc p) (64 * i - suc p)) →
-    m ≡ sum (digit (get_or w i 0)) (range 0 64) → n + m ≡ sum (marked w) (range (suc p) (64 * k - suc p))
-next w p i k n m l one e f =
+pub next : (w : List ℕ) (p i n m : ℕ) → p < 64 * i → n ≡ sum (marked w) (range (suc p) (64 * i - suc p)) →
+    m ≡ sum (digit (get_or w i 0)) (range 0 64) → n + m ≡ sum (marked w) (range (suc p) (64 * (i + 1) - suc p))
+next w p i n m l e f =
     let from : 64 * i + 0 ≡ suc p + (64 * i - suc p) = omega arith in
-    let d : 64 * i - suc p + 64 ≡ 64 * k - suc p = omega arith in
+    let d : 64 * i - suc p + 64 ≡ 64 * (i + 1) - suc p = omega arith in
     ap₂ (λ (x y : ℕ). x + y) e (f ∙ sym (word w i 0 64 (omega arith)) ∙ ap (λ (a : ℕ). sum (marked w) (range a 64)) from)
     ∙ sym (sum-append (marked w) (range (suc p) (64 * i - suc p)) (range (suc p + (64 * i - suc p)) 64))
     ∙ ap (sum (marked w)) (sym (range-append (suc p) (64 * i - suc p) 64))

@@ -64,6 +64,7 @@ pub fn bad_row<T: Numbers>(rows: &T, n: usize) -> Option<u16>
     let mut used = Used::new();
     for i in 1..n {
         if used.row_breaks(rows.number(2 * i - 2), rows.number(2 * i - 1), n + i) {
+            // A row's number is below 512. `u16::try_from` would ask for an answer where it is not.
             return Some(i as u16);
         }
     }
