@@ -10,15 +10,14 @@ use lib.Dec.{eqb, lit≤}
 use lib.ListN.{length, take}
 use Rattle.record_fields.specs.Fields.{size_of, parts}
 use Rattle.record_fields.specs.Refusals.{refusal}
-use Rattle.record_fields.specs.Refused.{refused, accepted, or_zero}
+use Rattle.record_fields.specs.Refused.{NumberAndRow, refused, accepted, or_zero}
 use Rattle.record_fields.specs.Told.{told_of, OwnRow}
 use Rattle.record_fields.specs.Meaning.{table_of}
 use Rattle.record_fields.proofs.Acceptance.{else_first, none_both}
 use Rattle.record_fields.proofs.Heading.{none_first, not_no}
 use Rattle.record_fields.proofs.Told.{told_none, alone_when, alone_0, own_when, own_then}
 use Rattle.record_arrays.specs.Sides.{RecordOver, is_side, side_of}
-use Rattle.record_fields.specs.declared.refusal.Refusal.{Refusal}
-use Rattle.calls_better.specs.declared.answers.Compared.{Compared}
+use Rattle.calls_better.specs.Answers.{Compared}
 use Rattle.record_orders.specs.Proposed.{is_order}
 use Rattle.calls_better.specs.Refusals.{better_refusal}
 use Rattle.calls_better.specs.Calls.{count_with, first_better, better_part, better_which, Address, Betters}
@@ -95,23 +94,23 @@ module _ (s : List ℕ) (side : ℕ) (first second : List ℕ) where
       rw e (own_when s (not (is_side side)) 13 refl (own_then s
       (alone_when (not (is_order (size_of s) t first)) 16 refl (alone_when (not (is_order (size_of s) t second)) 16 refl alone_0))))
 
-  pub better_checked : {k : ℕ} {told : Refusal} → told ≡ told_of s k → k ≡ better_refusal s side first second →
+  pub better_checked : {k : ℕ} {told : NumberAndRow} → told ≡ told_of s k → k ≡ better_refusal s side first second →
       BetterChecks s side first second told
   better_checked t e = record { answers = t ∙ ap (told_of s) e }
 
-  pub compare-refused : {k : ℕ} {told : Refusal} → told ≡ told_of s k → k ≡ better_refusal s side first second → k ≢ 0 →
+  pub compare-refused : {k : ℕ} {told : NumberAndRow} → told ≡ told_of s k → k ≡ better_refusal s side first second → k ≢ 0 →
       Compares s side first second (record { refusal = told; which = 0; length = 0 })
   unfolding better_which
   compare-refused {k} t e h = record { answers = rw (t, ← e, ne_eqb k 0 h) refl }
 
   module _ {n a b : ℕ} (none : better_refusal s side first second ≡ 0) (e : n ≡ size_of s)
       (p : a ≡ count_with s (side_of side) first) (q : b ≡ count_with s (side_of side) second) where
-    pub compare-first : {told : Refusal} → told ≡ refused 0 → a ≤ b →
+    pub compare-first : {told : NumberAndRow} → told ≡ refused 0 → a ≤ b →
         Compares s side first second (record { refusal = told; which = 1; length = n })
     unfolding better_which
     compare-first t h = record { answers = rw (t ∙ told_none (parts s) none, none, ← p, ← q, le-leb a b h, e) refl }
 
-    pub compare_second : {told : Refusal} → told ≡ refused 0 → b < a →
+    pub compare_second : {told : NumberAndRow} → told ≡ refused 0 → b < a →
         Compares s side first second (record { refusal = told; which = 2; length = n })
     unfolding better_which
     compare_second t h = record { answers = rw (t ∙ told_none (parts s) none, none, ← p, ← q, lt-leb a b h, e) refl }

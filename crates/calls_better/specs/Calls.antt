@@ -3,12 +3,11 @@ use Rattle.std.specs.Prelude.{ℕ, ◌≡◌, Bool, cond, List, [], leb, eqb, ta
 use Rattle.tanglegram.specs.Crossings.{count}
 use Rattle.tanglegram.specs.declared.side.Side.{Side}
 use Rattle.tanglegram.specs.declared.side.Side.TheVariants.{Left as left, Right as right}
-use Rattle.record_fields.specs.declared.refusal.Refusal.{Refusal}
 use Rattle.record_fields.specs.Fields.{size_of, parts}
-use Rattle.record_fields.specs.Refused.{accepted, or_zero}
+use Rattle.record_fields.specs.Refused.{NumberAndRow, accepted, or_zero}
 use Rattle.record_fields.specs.Told.{told_of}
 use Rattle.record_arrays.specs.Sides.{side_of}
-use Rattle.calls_better.specs.declared.answers.Compared.{Compared}
+use Rattle.calls_better.specs.Answers.{Compared}
 use Rattle.calls_better.specs.Refusals.{better_refusal}
 use Rattle.record_arrays.specs.Shown.{shown_order}
 
@@ -53,5 +52,5 @@ pub record Compares (s : List ℕ) (side : ℕ) (first second : List ℕ) (answe
     length = or_zero (better_refusal s side first second) (size_of s);
   }
 
-pub record BetterChecks (s : List ℕ) (side : ℕ) (first second : List ℕ) (answer : Refusal) : Type 0 where
+pub record BetterChecks (s : List ℕ) (side : ℕ) (first second : List ℕ) (answer : NumberAndRow) : Type 0 where
   pub answers : answer ≡ told_of s (better_refusal s side first second)

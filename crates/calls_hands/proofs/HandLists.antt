@@ -12,10 +12,9 @@ use lib.Dec.{ltb}
 use lib.ListN.{length, get_or, drop, length-map, drop_of_length-le}
 use lib.Seq.{drop-cons}
 use Rattle.tanglegram.specs.Order.{may_change}
-use Rattle.record_fields.specs.declared.refusal.Refusal.{Refusal}
 use Rattle.record_fields.specs.Fields.{most_hands, hold_of, size_of, parts}
 use Rattle.record_fields.specs.Refusals.{or_else, refusal}
-use Rattle.record_fields.specs.Refused.{refused}
+use Rattle.record_fields.specs.Refused.{NumberAndRow, refused}
 use Rattle.record_fields.specs.Told.{told_of, OwnRow}
 use Rattle.record_fields.specs.Meaning.{layouts_of, relaid}
 use Rattle.record_fields.proofs.Acceptance.{else_first, else_second, none_both}
@@ -148,10 +147,10 @@ module _ (s : List ℕ) (hands : List Hand) where
   unfolding hands_refusal
   hands-own e = rw e (own_when s (ltb most_hands (length hands)) 17 refl (own_then s (entries-alone s hands)))
 
-  pub hands-refused : {k : ℕ} {answer : Refusal} → k ≡ hands_refusal s hands → k ≢ 0 → answer ≡ told_of s k → Hands s hands answer s
+  pub hands-refused : {k : ℕ} {answer : NumberAndRow} → k ≡ hands_refusal s hands → k ≢ 0 → answer ≡ told_of s k → Hands s hands answer s
   hands-refused {k} e h r = record { answers = r ∙ ap (told_of s) e; afterwards = rw (← e, ne_eqb k 0 h) refl }
 
-  pub hands-accepted : {answer : Refusal} {after : List ℕ} → hands_refusal s hands ≡ 0 → answer ≡ refused 0 →
+  pub hands-accepted : {answer : NumberAndRow} {after : List ℕ} → hands_refusal s hands ≡ 0 → answer ≡ refused 0 →
       after ≡ relaid s (handed (layouts_of s) hands) → Hands s hands answer after
   hands-accepted a r e = record { answers = r ∙ told_none (parts s) a; afterwards = rw a e }
 
@@ -183,18 +182,18 @@ module _ (s : List ℕ) {A : Type 0} (f : A → Hand) (list : List A) where
     pub first-own : k ≢ 0 → OwnRow s k
     first-own h = hands-own s (map f list) (first-number h)
 
-    pub first-refused : {answer : Refusal} → k ≢ 0 → answer ≡ told_of s k → Hands s (map f list) answer s
+    pub first-refused : {answer : NumberAndRow} → k ≢ 0 → answer ≡ told_of s k → Hands s (map f list) answer s
     first-refused h r = hands-refused s (map f list) (first-number h) h r
 
     module _ (a : k ≡ 0) {b : ℕ} (found : b ≡ entries_refusal s (map f list)) where
       pub second_number : b ≡ hands_refusal s (map f list)
       second_number = found ∙ sym (else_second first second (sym e ∙ a)) ∙ handing_parts
 
-      pub second_refused : {answer : Refusal} → b ≢ 0 → answer ≡ refused b → Hands s (map f list) answer s
+      pub second_refused : {answer : NumberAndRow} → b ≢ 0 → answer ≡ refused b → Hands s (map f list) answer s
       second_refused h r =
           hands-refused s (map f list) second_number h
           (r ∙ told-alone (parts s) (subst Alone (sym found) (entries-alone s (map f list))))
 
-      pub second_accepted : {answer : Refusal} {after : List ℕ} → b ≡ 0 → answer ≡ refused 0 →
+      pub second_accepted : {answer : NumberAndRow} {after : List ℕ} → b ≡ 0 → answer ≡ refused 0 →
           after ≡ relaid s (handed (layouts_of s) (map f list)) → Hands s (map f list) answer after
       second_accepted z r w = hands-accepted s (map f list) (sym second_number ∙ z) r w

@@ -2,8 +2,7 @@
 use Rattle.std.specs.Prelude.{ℕ, ◌≡◌, cond, List, [], ◌∷◌}
 use Rattle.tanglegram.specs.Order.{turn_row}
 use Rattle.tanglegram.specs.Table.{Layouts, layout, put}
-use Rattle.record_fields.specs.declared.refusal.Refusal.{Refusal}
-use Rattle.record_fields.specs.Refused.{accepted}
+use Rattle.record_fields.specs.Refused.{NumberAndRow, accepted}
 use Rattle.record_fields.specs.Told.{told_of}
 use Rattle.record_fields.specs.Meaning.{layouts_of, relaid}
 use Rattle.record_arrays.specs.Sides.{side_of}
@@ -15,6 +14,6 @@ unfoldable pub handed : Layouts → List Hand → Layouts
 handed at [] = at
 handed at (h ∷ hs) = handed (put (side_of h.side) (turn_row (layout at (side_of h.side)) h.row) at) hs
 
-pub record Hands (s : List ℕ) (hands : List Hand) (answer : Refusal) (s' : List ℕ) : Type 0 where
+pub record Hands (s : List ℕ) (hands : List Hand) (answer : NumberAndRow) (s' : List ℕ) : Type 0 where
   pub answers : answer ≡ told_of s (hands_refusal s hands)
   pub afterwards : s' ≡ cond (accepted (hands_refusal s hands)) (relaid s (handed (layouts_of s) hands)) s

@@ -17,11 +17,10 @@ use Rattle.work_trees.specs.Rows.{upper, lower}
 use Rattle.merge.specs.Entries.{entry_for}
 use Rattle.merge.specs.Tables.{table_for}
 use Rattle.merge.proofs.Tables.{table_entry}
-use Rattle.record_fields.specs.declared.refusal.Refusal.{Refusal}
 use Rattle.record_fields.specs.Fields.{two, numbers, size_of, parts, parts_of}
 use Rattle.record_fields.specs.Meaning.{rows_on}
 use Rattle.record_fields.specs.Refusals.{refusal}
-use Rattle.record_fields.specs.Refused.{refused}
+use Rattle.record_fields.specs.Refused.{NumberAndRow, refused}
 use Rattle.record_fields.specs.Told.{told_of, OwnRow}
 use Rattle.record_fields.proofs.Acceptance.{else_first, none_both}
 use Rattle.record_fields.proofs.Heading.{none_first, not_no}
@@ -102,14 +101,14 @@ module _ (s : List ℕ) (side : ℕ) (out : List ℤ) where
 
   -- ---- the statement
 
-  pub merge-refused : {k : ℕ} {told : Refusal} → told ≡ told_of s k → k ≡ merge_write_refusal s side out → k ≢ 0 →
+  pub merge-refused : {k : ℕ} {told : NumberAndRow} → told ≡ told_of s k → k ≡ merge_write_refusal s side out → k ≢ 0 →
       MergeWrites s side out told out
   merge-refused {k} t e h = record {
     answers = t ∙ ap (told_of s) e;
     afterwards = rw (← e) (lent-refused k (written_table s side) out h);
   }
 
-  pub merge-accepted : {told : Refusal} {after : List ℤ} → told ≡ refused 0 → merge_write_refusal s side out ≡ 0 →
+  pub merge-accepted : {told : NumberAndRow} {after : List ℤ} → told ≡ refused 0 → merge_write_refusal s side out ≡ 0 →
       after ≡ sets out 0 (written_table s side) → MergeWrites s side out told after
   merge-accepted t a w =
       let good = merging_good a in

@@ -12,9 +12,8 @@ use lib.ListN.{length}
 use lib.Seq.{sets}
 use Rattle.merge.specs.Tables.{rows_in, some_none, twice, Pairs}
 use Rattle.merge.proofs.Tables.{length-rows}
-use Rattle.record_fields.specs.declared.refusal.Refusal.{Refusal}
 use Rattle.record_fields.specs.Refusals.{no_size}
-use Rattle.record_fields.specs.Refused.{refused}
+use Rattle.record_fields.specs.Refused.{NumberAndRow, refused}
 use Rattle.record_fields.proofs.Heading.{sized, none_first, not_no}
 use Rattle.record_fields.proofs.Refused.{lent-refused, lent-accepted}
 use Rattle.record_fields.proofs.Stores.{sets_front}
@@ -80,14 +79,14 @@ module _ (n : ℕ) (table : List ℤ) (out : List ℕ) where
 
   -- ---- the statement
 
-  pub read_refused : {k : ℕ} {told : Refusal} → told ≡ refused k → k ≡ merge_read_refusal n table out → k ≢ 0 →
+  pub read_refused : {k : ℕ} {told : NumberAndRow} → told ≡ refused k → k ≡ merge_read_refusal n table out → k ≢ 0 →
       MergeReads n table out told out
   read_refused {k} t e h = record {
     answers = t ∙ ap refused e;
     afterwards = rw (← e) (lent-refused k (rows_in n table) out h);
   }
 
-  pub read-accepted : {told : Refusal} {after : List ℕ} → told ≡ refused 0 → merge_read_refusal n table out ≡ 0 →
+  pub read-accepted : {told : NumberAndRow} {after : List ℕ} → told ≡ refused 0 → merge_read_refusal n table out ≡ 0 →
       after ≡ sets out 0 (rows_in n table) → MergeReads n table out told after
   read-accepted t a w =
       let g = reading-good a in

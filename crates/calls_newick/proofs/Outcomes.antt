@@ -11,10 +11,9 @@ use lib.ListN.{length}
 use lib.Seq.{sets}
 use Rattle.newick.specs.Sentence.{leaf_count}
 use Rattle.newick.specs.Rows.{rows_of}
-use Rattle.record_fields.specs.declared.refusal.Refusal.{Refusal}
 use Rattle.record_fields.specs.Fields.{parts}
 use Rattle.record_fields.specs.Refusals.{refusal}
-use Rattle.record_fields.specs.Refused.{refused, or_zero}
+use Rattle.record_fields.specs.Refused.{NumberAndRow, refused, or_zero}
 use Rattle.record_fields.specs.Told.{told_of, OwnRow}
 use Rattle.record_fields.proofs.Acceptance.{else_first, none_both}
 use Rattle.record_fields.proofs.Heading.{none_first, not_no}
@@ -22,8 +21,8 @@ use Rattle.record_fields.proofs.Refused.{lent-refused, lent-accepted}
 use Rattle.record_fields.proofs.Stores.{sets_front}
 use Rattle.record_fields.proofs.Told.{told-alone, alone_when, alone_0, own_when, own_then}
 use Rattle.record_arrays.specs.Sides.{is_side}
-use Rattle.calls_newick.specs.declared.answers.NewickRead.{NewickRead}
-use Rattle.calls_newick.specs.declared.answers.NewickWritten.{NewickWritten}
+use Rattle.calls_newick.specs.Answers.{NewickRead}
+use Rattle.calls_newick.specs.Answers.{NewickWritten}
 use Rattle.calls_newick.specs.Refusals.{keeps_grammar, said, is_numbered, newick_read_refusal, written_text, newick_write_refusal}
 use Rattle.calls_newick.specs.Calls.{NewickReads, NewickWrites, room_refusal, WritesSide}
 
@@ -55,7 +54,7 @@ module _ (text out : List ℕ) where
     afterwards = rw e (lent-refused k (rows_of (said text)) out h);
   }
 
-  pub read-accepted : {n : ℕ} {told : Refusal} {after rows : List ℕ} → told ≡ refused 0 → newick_read_refusal text out ≡ 0 →
+  pub read-accepted : {n : ℕ} {told : NumberAndRow} {after rows : List ℕ} → told ≡ refused 0 → newick_read_refusal text out ≡ 0 →
       n ≡ leaf_count (said text) → rows ≡ rows_of (said text) → length (rows_of (said text)) ≤ length out → after ≡ sets out 0 rows →
       NewickReads text out (record { refusal = told; n = n }) after
   read-accepted t a e r h w = record {
@@ -83,7 +82,7 @@ module _ (s : List ℕ) (side : ℕ) (out : List ℕ) where
         afterwards = rw e refl;
       }
 
-  pub side-written : {told : Refusal} {m : ℕ} {after : List ℕ} → told ≡ refused 0 → m ≡ length (written_text s side) →
+  pub side-written : {told : NumberAndRow} {m : ℕ} {after : List ℕ} → told ≡ refused 0 → m ≡ length (written_text s side) →
       length (written_text s side) ≤ length out → after ≡ sets out 0 (written_text s side) →
       WritesSide s side out (record { refusal = told; length = m }) after
   side-written t e h w =
@@ -138,7 +137,7 @@ module _ (s : List ℕ) (side : ℕ) (out : List ℕ) where
       rw e (own_when s (not (is_side side)) 13 refl
       (own_then s (alone_when (ltb (length out) (length (written_text s side))) 14 refl alone_0)))
 
-  pub write-refused : {k : ℕ} {told : Refusal} → told ≡ told_of s k → newick_write_refusal s side out ≡ k → k ≢ 0 →
+  pub write-refused : {k : ℕ} {told : NumberAndRow} → told ≡ told_of s k → newick_write_refusal s side out ≡ k → k ≢ 0 →
       NewickWrites s side out (record { refusal = told; length = 0 }) out
   write-refused {k} t e h = record {
     answers = rw (t, e, ne_eqb k 0 h) refl;

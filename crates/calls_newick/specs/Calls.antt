@@ -5,8 +5,8 @@ use Rattle.newick.specs.Rows.{rows_of}
 use Rattle.record_fields.specs.Refusals.{◌when◌else◌}
 use Rattle.record_fields.specs.Refused.{refused, lent, or_zero}
 use Rattle.record_fields.specs.Told.{told_of}
-use Rattle.calls_newick.specs.declared.answers.NewickRead.{NewickRead}
-use Rattle.calls_newick.specs.declared.answers.NewickWritten.{NewickWritten}
+use Rattle.calls_newick.specs.Answers.{NewickRead}
+use Rattle.calls_newick.specs.Answers.{NewickWritten}
 use Rattle.calls_newick.specs.Refusals.{said, newick_read_refusal, written_text, newick_write_refusal}
 
 -- A text read: its n, and its rows in the buffer.

@@ -6,10 +6,9 @@ use mathlib.Core.Bool.{Bool, true, false, not}
 use mathlib.Core.List.{List}
 use native.Mathlib.Omega.{arith}
 use borrow.Author.Tests.{ne_eqb}
-use Rattle.record_fields.specs.declared.refusal.Refusal.{Refusal}
 use Rattle.record_fields.specs.Fields.{size_of, parts}
 use Rattle.record_fields.specs.Refusals.{refusal}
-use Rattle.record_fields.specs.Refused.{refused}
+use Rattle.record_fields.specs.Refused.{NumberAndRow, refused}
 use Rattle.record_fields.specs.Told.{told_of, OwnRow}
 use Rattle.record_fields.specs.Meaning.{relaid}
 use Rattle.record_fields.proofs.Acceptance.{else_first, none_both}
@@ -60,10 +59,10 @@ module _ (s : List ℕ) (side row : ℕ) where
   -- ---- from what the call found to its statement
 
   module _ (pinned : Bool) where
-    pub pin-refused : {k : ℕ} {answer : Refusal} → k ≡ pin_refusal s side row → k ≢ 0 → answer ≡ told_of s k →
+    pub pin-refused : {k : ℕ} {answer : NumberAndRow} → k ≡ pin_refusal s side row → k ≢ 0 → answer ≡ told_of s k →
         Pins s side row pinned answer s
     pin-refused {k} e h r = record { answers = r ∙ ap (told_of s) e; afterwards = rw (← e, ne_eqb k 0 h) refl }
 
-    pub pin-accepted : {answer : Refusal} {s' : List ℕ} → pin_refusal s side row ≡ 0 → answer ≡ refused 0 →
+    pub pin-accepted : {answer : NumberAndRow} {s' : List ℕ} → pin_refusal s side row ≡ 0 → answer ≡ refused 0 →
         s' ≡ relaid s (pinned_layouts s side row pinned) → Pins s side row pinned answer s'
     pin-accepted z r e = record { answers = r ∙ told_none (parts s) z; afterwards = rw z e }

@@ -8,7 +8,7 @@ use borrow.Author.Tests.{eq-eqb, ne_eqb}
 use lib.Dec.{eqb}
 use Rattle.tanglegram.specs.Lists.{bit}
 use Rattle.record_fields.specs.Fields.{most_turns}
-use Rattle.calls_turns.specs.declared.answers.Ran.{Ran}
+use Rattle.calls_turns.specs.Answers.{Ran}
 use Rattle.calls_turns.specs.Refusals.{run_refusal}
 use Rattle.calls_turns.specs.Calls.{Runs}
 use Rattle.work_text.specs.Puts.{Puts}

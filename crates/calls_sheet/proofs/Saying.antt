@@ -10,15 +10,14 @@ use lib.Dec.{eqb}
 use lib.ListN.{length, drop, length-append}
 use Rattle.record_fields.specs.Fields.{hold_of, size_of, most_turns}
 use Rattle.record_fields.specs.Refusals.{refusal}
-use Rattle.record_fields.specs.Refused.{accepted}
+use Rattle.record_fields.specs.Refused.{NumberAndRow, accepted}
 use Rattle.record_fields.specs.Told.{told_of}
-use Rattle.record_fields.specs.declared.refusal.Refusal.{Refusal}
 use Rattle.record_fields.proofs.Stores.{sets_front}
-use Rattle.record.specs.declared.reading.Header.{Header}
-use Rattle.record.specs.declared.reading.Reading.{Reading}
-use Rattle.record.specs.declared.reading.Reading.TheVariants.{Accepted, Refused}
+use Rattle.record.specs.Calls.{Heading}
+use Rattle.record.specs.Calls.{Reading}
+use Rattle.record.specs.Calls.{Accepted, Refused}
 use Rattle.record.specs.Calls.{Reads, reading_of, reading_refusal}
-use Rattle.calls_show.specs.declared.answers.InThousandths.TheVariants as in_thousandths
+use Rattle.calls_show.specs.InThousandths as in_thousandths
 use Rattle.calls_turns.specs.Refusals.{run_refusal}
 use Rattle.calls_turns.proofs.Turns.{running_good}
 use Rattle.work_text.specs.Puts.{Puts}
@@ -30,24 +29,24 @@ use Rattle.calls_sheet.specs.Calls.{SaysLine}
 -- ---- what a reading says
 
 module _ {s : List ℕ} {reading : Reading} (p : Reads s reading) where
-  pub read_heading : {h : Header} → reading ≡ Accepted h → HeadingOf s h.hold h.n
+  pub read_heading : {h : Heading} → reading ≡ Accepted h → HeadingOf s h.hold h.n
   unfolding reading_of
   read_heading {h} e = go (accepted (refusal s)) refl
     where
       go : (b : Bool) → accepted (refusal s) ≡ b → HeadingOf s h.hold h.n
       go true t =
           let same : Accepted (record { hold = hold_of s; n = size_of s }) ≡ Accepted h = sym (p.answers ∙ rw t refl) ∙ e in
-          let heading : ◌≡◌ {A = Header} (record { hold = hold_of s; n = size_of s }) h = cc in
+          let heading : ◌≡◌ {A = Heading} (record { hold = hold_of s; n = size_of s }) h = cc in
           record {
             accepted = eqb-true (refusal s) 0 t;
-            holds = sym (ap (λ (x : Header). x.hold) heading);
-            sized = sym (ap (λ (x : Header). x.n) heading);
+            holds = sym (ap (λ (x : Heading). x.hold) heading);
+            sized = sym (ap (λ (x : Heading). x.n) heading);
           }
       go false t =
           let same : Refused (told_of s (refusal s)) ≡ Accepted h = sym (p.answers ∙ rw t refl) ∙ e in
           absurd (let z : ◌≡◌ {A = ℕ} 0 1 = cc in omega arith)
 
-  pub read_refused : {r : Refusal} → reading ≡ Refused r → (refusal s ≢ 0) × (reading_refusal reading ≡ told_of s (refusal s))
+  pub read_refused : {r : NumberAndRow} → reading ≡ Refused r → (refusal s ≢ 0) × (reading_refusal reading ≡ told_of s (refusal s))
   unfolding reading_of
   read_refused {r} e = go (accepted (refusal s)) refl
     where
@@ -94,7 +93,7 @@ module _ (s : List ℕ) (k : ℕ) {out out' : List ℕ} {r : ℕ} (long : length
   unfolding line_text line_of_record after_line
   says-run a e p = says 0 (λ f. absurd (omega arith)) (rw (eq-eqb (refusal s) 0 a, e) p.puts) (rw e p.leaves)
 
-  pub says-refused : {told : Refusal} → refusal s ≢ 0 → told ≡ told_of s (refusal s) →
+  pub says-refused : {told : NumberAndRow} → refusal s ≢ 0 → told ≡ told_of s (refusal s) →
       Puts (cond (eqb k 1) (refused_line told) []) out 0 r out' → SaysLine s k out r out' s
   unfolding line_text
   says-refused h t p =

@@ -10,15 +10,15 @@ use lib.ListN.{length, take, drop, length-append}
 use lib.Seq.{take_at}
 use Rattle.tanglegram.specs.Entanglement.{worst}
 use Rattle.tanglegram.proofs.Lists.{all-length}
+use Rattle.record_fields.specs.Refused.{NumberAndRow}
 use Rattle.record_fields.specs.Fields.{size_of}
 use Rattle.record_fields.specs.Refusals.{refusal}
-use Rattle.record_fields.specs.declared.refusal.Refusal.{Refusal}
 use Rattle.record_fields.proofs.Acceptance.{accepted-sized}
 use Rattle.record_arrays.specs.Shown.{shown_order, shown_count, shown_displacement}
 use Rattle.record_arrays.specs.Sides.{is_side, side_of}
 use Rattle.record_arrays.proofs.AsItStands.{side-perm, over_its_leaves}
-use Rattle.calls_show.specs.declared.answers.Counted.{Counted}
-use Rattle.calls_show.specs.declared.answers.SquaredEntanglement.{SquaredEntanglement}
+use Rattle.calls_show.specs.Answers.{Counted}
+use Rattle.calls_show.specs.Answers.{SquaredEntanglement}
 use Rattle.calls_show.specs.Calls.{Orders, Counts, SquaredEntangles, squared_entanglement, displaced_in, worst_in}
 use Rattle.calls_show.proofs.Outcomes.{ordering_0}
 use Rattle.calls_show.proofs.Shown.{displacement-at-most}
@@ -39,7 +39,7 @@ module _ (s : List ℕ) (a : refusal s ≡ 0) where
     order_fits letter =
         order-most letter (size_of s) _ (accepted-sized s a).most (side-perm s (size_of s) (over_its_leaves s a) (side_of side))
 
-    module _ {out out' : List ℕ} {answer : Refusal} (p : Orders s side out answer out') (room : 512 ≤ length out) where
+    module _ {out out' : List ℕ} {answer : NumberAndRow} (p : Orders s side out answer out') (room : 512 ≤ length out) where
       lent-order : out' ≡ shown_order s (side_of side) ++ drop (length (shown_order s (side_of side))) out
       lent-order =
           p.afterwards ∙ rw (sym (ordering_0 s side out good a (omega (arith, (accepted-sized s a).most)))) refl

@@ -1,8 +1,8 @@
 -- The lines of a sheet, each as its bytes, the line feed at its end among them.
 use Prim.Native.Char.{code}
+use Rattle.record_fields.specs.Refused.{NumberAndRow}
 use Rattle.std.specs.Prelude.{ℕ, zero, suc, Bool, cond, List, [], ◌∷◌, ◌++◌}
 use Rattle.work_text.specs.Lines.{ascii, space, next, line}
-use Rattle.record_fields.specs.declared.refusal.Refusal.{Refusal}
 
 -- `TGP`, the version, which is 1, the hold's letter, n.
 abbrev pub heading_line : ℕ → ℕ → List ℕ
@@ -34,5 +34,5 @@ row_told zero = []
 row_told (suc i) = suc i ∷ []
 
 -- `REFUSED`, the number, and the row if there is one.
-abbrev pub refused_line : Refusal → List ℕ
+abbrev pub refused_line : NumberAndRow → List ℕ
 refused_line r = line (ascii "REFUSED") (r.number ∷ row_told r.row)

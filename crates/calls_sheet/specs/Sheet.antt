@@ -12,7 +12,7 @@ use Rattle.record_fields.specs.Refusals.{refusal}
 use Rattle.record_fields.specs.Refused.{accepted}
 use Rattle.record_fields.specs.Told.{told_of}
 use Rattle.record_arrays.specs.Shown.{shown_order, shown_count, shown_displacement}
-use Rattle.calls_show.specs.declared.answers.InThousandths.{InThousandths}
+use Rattle.calls_show.specs.InThousandths.{InThousandths}
 use Rattle.calls_show.specs.Calls.{TellsThousandths, thousandths_in}
 use Rattle.calls_turns.specs.Refusals.{run_refusal}
 use Rattle.calls_turns.specs.Calls.{ran_to}

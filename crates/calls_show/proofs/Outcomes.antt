@@ -16,20 +16,19 @@ use Rattle.tanglegram.proofs.Entanglement.{worst-most}
 use Rattle.tanglegram.proofs.Thousandths.{only_one, worst_positive}
 use Rattle.record_fields.specs.Fields.{size_of, parts}
 use Rattle.record_fields.specs.Refusals.{refusal}
-use Rattle.record_fields.specs.Refused.{refused, accepted}
+use Rattle.record_fields.specs.Refused.{NumberAndRow, refused, accepted}
 use Rattle.record_fields.specs.Told.{told_of, OwnRow}
 use Rattle.record_fields.proofs.Acceptance.{accepted-sized, else_first, none_both}
 use Rattle.record_fields.proofs.Heading.{none_first, not_no}
 use Rattle.record_fields.proofs.Refused.{lent-refused, lent-accepted}
 use Rattle.record_fields.proofs.Told.{told_none, alone_when, alone_0, own_when, own_then}
 use Rattle.record_fields.proofs.Stores.{sets_front}
-use Rattle.calls_show.specs.declared.answers.SquaredEntanglement.TheVariants.{Ratio, NoRatio, Refused}
-use Rattle.calls_show.specs.declared.answers.InThousandths.{InThousandths}
-use Rattle.calls_show.specs.declared.answers.InThousandths.TheVariants as in_thousandths
+use Rattle.calls_show.specs.Answers.{Ratio, NoRatio, Refused}
+use Rattle.calls_show.specs.InThousandths.{InThousandths}
+use Rattle.calls_show.specs.InThousandths as in_thousandths
 use Rattle.record_arrays.specs.Sides.{is_side, side_of}
 use Rattle.calls_show.specs.Refusals.{order_refusal}
 use Rattle.record_arrays.specs.Shown.{shown_order, shown_count}
-use Rattle.record_fields.specs.declared.refusal.Refusal.{Refusal}
 use Rattle.calls_show.specs.Calls.{Orders, Counts, ratio, squared_entanglement, SquaredEntangles, squared_refusal}
 use Rattle.calls_show.specs.Calls.{ThousandthsOf, thousandths_refusal, TellsThousandths}
 use Rattle.record_arrays.proofs.AsItStands.{side-perm, over_n}
@@ -39,17 +38,17 @@ use Rattle.calls_show.proofs.Shown.{displacement-at-most}
 module _ (s : List ℕ) where
   -- ---- counts
 
-  pub count-refused : {k : ℕ} {told : Refusal} → told ≡ told_of s k → k ≡ refusal s → k ≢ 0 →
+  pub count-refused : {k : ℕ} {told : NumberAndRow} → told ≡ told_of s k → k ≡ refusal s → k ≢ 0 →
       Counts s (record { refusal = told; count = 0 })
   count-refused {k} t e h = record { answers = rw (t, ← e, ne_eqb k 0 h) refl }
 
-  pub count-accepted : {r : ℕ} {told : Refusal} → told ≡ refused 0 → refusal s ≡ 0 → r ≡ shown_count s →
+  pub count-accepted : {r : ℕ} {told : NumberAndRow} → told ≡ refused 0 → refusal s ≡ 0 → r ≡ shown_count s →
       Counts s (record { refusal = told; count = r })
   count-accepted t a e = record { answers = rw (t ∙ told_none (parts s) a, a, e) refl }
 
   -- ---- squared entanglement
 
-  pub squared-refused : {k : ℕ} {told : Refusal} → told ≡ told_of s k → k ≡ refusal s → k ≢ 0 → SquaredEntangles s (Refused told)
+  pub squared-refused : {k : ℕ} {told : NumberAndRow} → told ≡ told_of s k → k ≡ refusal s → k ≢ 0 → SquaredEntangles s (Refused told)
   unfolding squared_entanglement
   squared-refused {k} t e h = record { answers = ap Refused t ∙ rw (← e, ne_eqb k 0 h) refl }
 
@@ -77,7 +76,7 @@ module _ (s : List ℕ) where
 -- ---- entanglement in thousandths
 
 module _ (s : List ℕ) where
-  pub thousandths-refused : {k : ℕ} {told : Refusal} → told ≡ told_of s k → k ≡ refusal s → k ≢ 0 →
+  pub thousandths-refused : {k : ℕ} {told : NumberAndRow} → told ≡ told_of s k → k ≡ refusal s → k ≢ 0 →
       TellsThousandths s (in_thousandths.Refused told)
   thousandths-refused t e h = record { answers = (λ z. h (e ∙ z), t ∙ ap (told_of s) e) }
 
@@ -152,13 +151,13 @@ module _ (s : List ℕ) (side : ℕ) (out : List ℕ) where
   unfolding order_refusal
   order-own e = rw e (own_when s (not (is_side side)) 13 refl (own_then s (alone_when (ltb (length out) (size_of s)) 14 refl alone_0)))
 
-  pub order_refused : {k : ℕ} {told : Refusal} → told ≡ told_of s k → k ≡ order_refusal s side out → k ≢ 0 → Orders s side out told out
+  pub order_refused : {k : ℕ} {told : NumberAndRow} → told ≡ told_of s k → k ≡ order_refusal s side out → k ≢ 0 → Orders s side out told out
   order_refused {k} t e h = record {
     answers = t ∙ ap (told_of s) e;
     afterwards = rw (← e) (lent-refused k (shown_order s (side_of side)) out h);
   }
 
-  pub order-accepted : (n : ℕ) (A found after : List ℕ) {told : Refusal} → told ≡ refused 0 → order_refusal s side out ≡ 0 → n ≡ size_of s →
+  pub order-accepted : (n : ℕ) (A found after : List ℕ) {told : NumberAndRow} → told ≡ refused 0 → order_refusal s side out ≡ 0 → n ≡ size_of s →
       A ≡ shown_order s (side_of side) ++ drop n found → after ≡ sets out 0 (take n A) → Orders s side out told after
   order-accepted n A found after t a e h w =
       let good = ordering_good a in

@@ -4,23 +4,22 @@ use Rattle.std.proofs.Math.Option.{Option, some, none}
 use Rattle.std.specs.Float.{binary64}
 use Rattle.std.specs.Float.Ieee.{div, of_int}
 use Rattle.tanglegram.specs.Entanglement.{worst, Thousandths}
-use Rattle.record_fields.specs.declared.refusal.Refusal.{Refusal}
 use Rattle.record_fields.specs.Fields.{size_of}
 use Rattle.record_fields.specs.Refusals.{refusal}
-use Rattle.record_fields.specs.Refused.{refused, accepted, lent, or_zero}
+use Rattle.record_fields.specs.Refused.{NumberAndRow, refused, accepted, lent, or_zero}
 use Rattle.record_fields.specs.Told.{told_of}
 use Rattle.record_arrays.specs.Sides.{side_of}
 use Rattle.record_arrays.specs.Shown.{shown_order, shown_count, shown_displacement}
-use Rattle.calls_show.specs.declared.answers.Counted.{Counted}
-use Rattle.calls_show.specs.declared.answers.SquaredEntanglement.{SquaredEntanglement}
-use Rattle.calls_show.specs.declared.answers.SquaredEntanglement.TheVariants.{Ratio, NoRatio, Refused}
-use Rattle.calls_show.specs.declared.answers.InThousandths.{InThousandths}
-use Rattle.calls_show.specs.declared.answers.InThousandths.TheVariants as in_thousandths
+use Rattle.calls_show.specs.Answers.{Counted}
+use Rattle.calls_show.specs.Answers.{SquaredEntanglement}
+use Rattle.calls_show.specs.Answers.{Ratio, NoRatio, Refused}
+use Rattle.calls_show.specs.InThousandths.{InThousandths}
+use Rattle.calls_show.specs.InThousandths as in_thousandths
 use Rattle.calls_show.specs.Refusals.{order_refusal}
 
 -- ---- order, count, pairs
 
-pub record Orders (s : List ℕ) (side : ℕ) (out : List ℕ) (answer : Refusal) (out' : List ℕ) : Type 0 where
+pub record Orders (s : List ℕ) (side : ℕ) (out : List ℕ) (answer : NumberAndRow) (out' : List ℕ) : Type 0 where
   pub answers : answer ≡ told_of s (order_refusal s side out)
   pub afterwards : out' ≡ lent (order_refusal s side out) (shown_order s (side_of side)) out
 
@@ -41,7 +40,7 @@ squared_entanglement s =
     (Refused (told_of s (refusal s)))
 
 -- The refusal, D, W and the ratio or none, for each case.
-abbrev pub squared_refusal : SquaredEntanglement → Refusal
+abbrev pub squared_refusal : SquaredEntanglement → NumberAndRow
 squared_refusal (Ratio d w x) = refused 0
 squared_refusal NoRatio = refused 0
 squared_refusal (Refused r) = r
@@ -74,7 +73,7 @@ ThousandthsOf s in_thousandths.NoRatio = (refusal s ≡ 0) × (size_of s ≡ 1)
 ThousandthsOf s (in_thousandths.Refused r) = (refusal s ≢ 0) × (r ≡ told_of s (refusal s))
 
 -- The refusal, and k or none, for each case.
-abbrev pub thousandths_refusal : InThousandths → Refusal
+abbrev pub thousandths_refusal : InThousandths → NumberAndRow
 thousandths_refusal (in_thousandths.Ratio k) = refused 0
 thousandths_refusal in_thousandths.NoRatio = refused 0
 thousandths_refusal (in_thousandths.Refused r) = r

@@ -1,2 +1,4 @@
+pub mod Answers
+pub mod InThousandths
 pub mod Refusals
 pub mod Calls

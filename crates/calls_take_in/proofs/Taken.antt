@@ -14,10 +14,9 @@ use Rattle.tanglegram.specs.Order.{against_pins}
 use Rattle.tanglegram.specs.declared.side.Side.{Side}
 use Rattle.tanglegram.specs.Table.{layout}
 use Rattle.tanglegram.proofs.PinnedAs.{length-pinned_as}
-use Rattle.record_fields.specs.declared.refusal.Refusal.{Refusal}
 use Rattle.record_fields.specs.Fields.{size_of, parts}
 use Rattle.record_fields.specs.Refusals.{◌when◌else◌, refusal}
-use Rattle.record_fields.specs.Refused.{refused}
+use Rattle.record_fields.specs.Refused.{NumberAndRow, refused}
 use Rattle.record_fields.specs.Told.{told_of, OwnRow}
 use Rattle.record_fields.specs.Meaning.{table_of, layouts_of}
 use Rattle.record_fields.proofs.Acceptance.{else_first, none_both}
@@ -140,14 +139,14 @@ module _ (s : List ℕ) (side : ℕ) (xs out : List ℕ) where
 
   -- ---- the statement
 
-  pub take_in_refused : {k : ℕ} {told : Refusal} → told ≡ told_of s k → k ≡ take_in_refusal s side xs out → k ≢ 0 →
+  pub take_in_refused : {k : ℕ} {told : NumberAndRow} → told ≡ told_of s k → k ≡ take_in_refusal s side xs out → k ≢ 0 →
       TakesIn s side xs out (record { refusal = told; count = 0; least = 0 }) out
   take_in_refused {k} t e h = record {
     answers = rw (t, ← e, ne_eqb k 0 h) refl;
     afterwards = lent-refused (take_in_refusal s side xs out) (taken_bytes s (side_of side) xs) out (λ z. h (e ∙ z));
   }
 
-  pub take_in_accepted : {told : Refusal} {bytes out' : List ℕ} {before after least : ℕ} → told ≡ refused 0 →
+  pub take_in_accepted : {told : NumberAndRow} {bytes out' : List ℕ} {before after least : ℕ} → told ≡ refused 0 →
       take_in_refusal s side xs out ≡ 0 → bytes ≡ taken_bytes s (side_of side) xs → out' ≡ sets out 0 bytes →
       Weighed s (side_of side) bytes before after → least ≡ bit (leb before after) →
       TakesIn s side xs out (record { refusal = told; count = before; least = least }) out'

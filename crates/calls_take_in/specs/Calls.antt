@@ -8,7 +8,7 @@ use Rattle.record_fields.specs.Refused.{lent, or_zero}
 use Rattle.record_fields.specs.Told.{told_of}
 use Rattle.record_fields.specs.Meaning.{table_of, layouts_of}
 use Rattle.record_arrays.specs.Sides.{side_of}
-use Rattle.calls_take_in.specs.declared.answers.TakenIn.{TakenIn}
+use Rattle.calls_take_in.specs.Answers.{TakenIn}
 use Rattle.calls_take_in.specs.Refusals.{shown_on, take_in_refusal}
 
 -- The layout bytes that give the order, each row pinned exactly if it is pinned in the record.

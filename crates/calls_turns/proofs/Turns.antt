@@ -14,8 +14,7 @@ use Rattle.record_fields.specs.Meaning.{table_of, layouts_of, relaid}
 use Rattle.record_fields.proofs.Acceptance.{else_first, none_both}
 use Rattle.record_fields.proofs.Heading.{none_first, not_no}
 use Rattle.record_arrays.specs.Sides.{is_side, side_of, holds, RecordOver}
-use Rattle.record_fields.specs.declared.refusal.Refusal.{Refusal}
-use Rattle.record_fields.specs.Refused.{refused}
+use Rattle.record_fields.specs.Refused.{NumberAndRow, refused}
 use Rattle.record_fields.specs.Told.{told_of, OwnRow}
 use Rattle.record_fields.proofs.Told.{told_none, alone_when, alone_0, own_when, own_then}
 use Rattle.calls_turns.specs.Refusals.{free_refusal, no_allowance, run_refusal}
@@ -59,7 +58,7 @@ module _ (s : List ℕ) (side : ℕ) where
   unfolding free_refusal
   free_own e = rw e (own_when s (not (is_side side)) 13 refl (own_then s (alone_when (holds (hold_of s) (side_of side)) 11 refl alone_0)))
 
-  pub free_refused : {k : ℕ} {told : Refusal} → told ≡ told_of s k → k ≡ free_refusal s side → k ≢ 0 →
+  pub free_refused : {k : ℕ} {told : NumberAndRow} → told ≡ told_of s k → k ≡ free_refusal s side → k ≢ 0 →
       Frees s side (record { refusal = told; before = 0; after = 0 }) s
   free_refused {k} t e h = record { answers = rw (t, ← e, ne_eqb k 0 h) refl; afterwards = rw (← e, ne_eqb k 0 h) refl }
 
@@ -69,7 +68,7 @@ module _ (s : List ℕ) (side : ℕ) where
       ap (λ T. crossings T (layouts_of (relaid s (freed_layouts s side)))) (freed-table s n g (side_of side))
       ∙ ap (crossings (table_of s)) (freed-layouts s n g (side_of side))
 
-  pub free-accepted : {b a : ℕ} {told : Refusal} {s' : List ℕ} → told ≡ refused 0 → free_refusal s side ≡ 0 →
+  pub free-accepted : {b a : ℕ} {told : NumberAndRow} {s' : List ℕ} → told ≡ refused 0 → free_refusal s side ≡ 0 →
       RecordFreed s (side_of side) b a s' → Frees s side (record { refusal = told; before = b; after = a }) s'
   free-accepted t z f = record {
     answers = rw (t ∙ told_none (parts s) z, z, f.counted, f.recounted) refl;
@@ -120,11 +119,11 @@ module _ (s : List ℕ) (allowance : ℕ) where
       rw e (own_when s (no_allowance allowance) 12 refl (own_then s
       (alone_when (holds (hold_of s) left) 11 refl (alone_when (holds (hold_of s) right) 11 refl alone_0))))
 
-  pub run_refused : {k : ℕ} {told : Refusal} → told ≡ told_of s k → k ≡ run_refusal s allowance → k ≢ 0 →
+  pub run_refused : {k : ℕ} {told : NumberAndRow} → told ≡ told_of s k → k ≡ run_refusal s allowance → k ≢ 0 →
       Runs s allowance (record { refusal = told; first = 0; last = 0; turns = 0; settled = 0 }) s
   run_refused {k} t e h = record { answers = rw (t, ← e, ne_eqb k 0 h) refl; afterwards = rw (← e, ne_eqb k 0 h) refl }
 
-  pub run-accepted : {f l t w : ℕ} {told : Refusal} {s' : List ℕ} → told ≡ refused 0 → run_refusal s allowance ≡ 0 →
+  pub run-accepted : {f l t w : ℕ} {told : NumberAndRow} {s' : List ℕ} → told ≡ refused 0 → run_refusal s allowance ≡ 0 →
       RecordRan s allowance f l t w s' → Runs s allowance (record { refusal = told; first = f; last = l; turns = t; settled = w }) s'
   run-accepted told z e = record {
     answers = rw (told ∙ told_none (parts s) z, z, e.first_count, e.last_count, e.taken, e.ended) refl;

@@ -7,8 +7,8 @@ use Rattle.record_fields.specs.Told.{told_of}
 use Rattle.record_fields.specs.Meaning.{table_of, layouts_of, relaid}
 use Rattle.record_arrays.specs.Sides.{side_of}
 use Rattle.record_arrays.specs.Shown.{shown_count}
-use Rattle.calls_turns.specs.declared.answers.Freed.{Freed}
-use Rattle.calls_turns.specs.declared.answers.Ran.{Ran}
+use Rattle.calls_turns.specs.Answers.{Freed}
+use Rattle.calls_turns.specs.Answers.{Ran}
 use Rattle.calls_turns.specs.Refusals.{free_refusal, run_refusal}
 pub use Rattle.record_turns.specs.Worked.{ran_to}
 

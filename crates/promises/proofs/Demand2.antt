@@ -29,7 +29,7 @@ use Rattle.calls_show.specs.Refusals.{order_refusal}
 use Rattle.calls_turns.specs.Refusals.{free_refusal}
 use Rattle.record_arrays.specs.Shown.{shown_order, shown_count, own_crossings}
 use Rattle.calls_turns.specs.Calls.{freed_layouts, Frees}
-use Rattle.calls_turns.specs.declared.answers.Freed.{Freed}
+use Rattle.calls_turns.specs.Answers.{Freed}
 use Rattle.record_arrays.proofs.AsItStands.{over_its_leaves, side-perm}
 use Rattle.calls_show.proofs.Outcomes.{ordering_good}
 use Rattle.calls_turns.proofs.Freed.{freed-layouts, freed-table}

@@ -18,8 +18,8 @@ use Rattle.record_fields.specs.Fields.{size_of}
 use Rattle.record_fields.specs.Refusals.{refusal}
 use Rattle.record_fields.proofs.Acceptance.{accepted-sized}
 use Rattle.record_arrays.specs.Shown.{shown_displacement}
-use Rattle.calls_show.specs.declared.answers.InThousandths.{InThousandths}
-use Rattle.calls_show.specs.declared.answers.InThousandths.TheVariants as in_thousandths
+use Rattle.calls_show.specs.InThousandths.{InThousandths}
+use Rattle.calls_show.specs.InThousandths as in_thousandths
 use Rattle.calls_show.specs.Calls.{ratio, squared_entanglement, squared_refusal, ThousandthsOf, thousandths_refusal}
 use Rattle.calls_show.proofs.Shown.{displacement-at-most}
 use Rattle.calls_show.proofs.Outcomes.{squared-told}

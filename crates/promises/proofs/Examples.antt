@@ -17,7 +17,7 @@ use Rattle.tanglegram.specs.Examples.{Line}
 use Rattle.tanglegram.proofs.Bools.{and_both}
 use Rattle.tanglegram.proofs.Thousandths.{from_next}
 use Rattle.work_tree_rule.specs.Rule.{among, first, bad_row}
-use Rattle.record_fields.specs.declared.refusal.Refusal.{Refusal}
+use Rattle.record_fields.specs.Refused.{NumberAndRow}
 use Rattle.record_fields.specs.Fields.{size_of, numbers, split, parts_of, packed}
 use Rattle.record_fields.specs.Refusals.{all, is_mark, is_hold, no_size, breaks_rule, one_to_one, is_layout, contents_refusal, heading_refusal}
 use Rattle.record_fields.specs.Refusals.{refusal}
@@ -32,8 +32,8 @@ use Rattle.calls_hands.specs.Calls.{handed}
 use Rattle.calls_pins.specs.Refusals.{pin_refusal}
 use Rattle.record_orders.specs.Proposed.{same, is_order}
 use Rattle.calls_take_in.specs.Refusals.{take_in_refusal}
-use Rattle.calls_show.specs.declared.answers.InThousandths.{InThousandths}
-use Rattle.calls_show.specs.declared.answers.InThousandths.TheVariants as in_thousandths
+use Rattle.calls_show.specs.InThousandths.{InThousandths}
+use Rattle.calls_show.specs.InThousandths as in_thousandths
 use Rattle.calls_show.specs.Calls.{squared_entanglement, TellsThousandths}
 use Rattle.newick.specs.Sentence.{leaf_numbers}
 use Rattle.newick.specs.Reading.{text_read}
@@ -82,7 +82,7 @@ tells s (in_thousandths.Refused r) e =
     let row = eqb-true r.row (told_of s (refusal s)).row b.1 in
     record { answers = (eqb-false (refusal s) 0 (not-true _ a.0), same r number row) }
   where
-    same : (r : Refusal) → r.number ≡ refusal s → r.row ≡ (told_of s (refusal s)).row → r ≡ told_of s (refusal s)
+    same : (r : NumberAndRow) → r.number ≡ refusal s → r.row ≡ (told_of s (refusal s)).row → r ≡ told_of s (refusal s)
     same r e f = rw (e, f) refl
 
 abbrev all_fit : List Line → Bool

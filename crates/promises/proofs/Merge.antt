@@ -18,13 +18,12 @@ use Rattle.merge.specs.Tables.{rows_in, table_for, some_none, twice, Pairs, Entr
 use Rattle.merge.proofs.Tables.{length-rows, row_entry, place-named, none_where, named-nowhere, table_back, rows_back}
 use Rattle.merge.proofs.Twice.{twice_where, twice-apart}
 use Rattle.merge.proofs.TreeRule.{tests_rule, rule-named, rule_once, written-pairs, written-named}
-use Rattle.record_fields.specs.declared.refusal.Refusal.{Refusal}
 use Rattle.record_fields.specs.Fields.{size_of, length_of, Parts, parts, packed}
 use Rattle.record_fields.specs.Meaning.{rows_on}
 use Rattle.record_fields.specs.Refusals.{◌when◌else◌, or_else, is_hold, no_size, breaks_rule, one_to_one, is_layout, contents_refusal, refusal}
 use Rattle.record_fields.proofs.Acceptance.{accepted-sized}
 use Rattle.record_fields.proofs.Heading.{sized, unsized}
-use Rattle.record_fields.specs.Refused.{refused}
+use Rattle.record_fields.specs.Refused.{NumberAndRow, refused}
 use Rattle.record_fields.specs.Told.{told_in}
 use Rattle.record_fields.proofs.Told.{Alone, told-alone, alone_when, alone_0}
 use Rattle.record_fields.proofs.Refused.{lent-accepted}
@@ -112,7 +111,7 @@ module _ (n : ℕ) (table : List ℤ) (out : List ℕ) where
 
 -- ---- reading
 
-module _ (n : ℕ) (table : List ℤ) (out : List ℕ) (answer : Refusal) (out' : List ℕ) (o : MergeReads n table out answer out') where
+module _ (n : ℕ) (table : List ℤ) (out : List ℕ) (answer : NumberAndRow) (out' : List ℕ) (o : MergeReads n table out answer out') where
   number_is : answer.number ≡ merge_read_refusal n table out
   number_is = ap (λ a. a.number) o.answers
 
@@ -206,7 +205,7 @@ module _ (n : ℕ) (table : List ℤ) (out : List ℕ) (answer : Refusal) (out' 
 
 -- ---- writing
 
-module _ (s : List ℕ) (side : ℕ) (out : List ℤ) (answer : Refusal) (out' : List ℤ) (o : MergeWrites s side out answer out')
+module _ (s : List ℕ) (side : ℕ) (out : List ℤ) (answer : NumberAndRow) (out' : List ℤ) (o : MergeWrites s side out answer out')
     (accepted : answer.number ≡ 0) where
   no_write-refusal : merge_write_refusal s side out ≡ 0
   no_write-refusal = sym (ap (λ a. a.number) o.answers) ∙ accepted
@@ -248,7 +247,7 @@ module _ (s : List ℕ) (side : ℕ) (out : List ℤ) (answer : Refusal) (out' :
   }
 
   -- the table that was written, read
-  pub read_back : (buffer : List ℕ) → 2 * (size_of s - 1) ≤ length buffer → (read : Refusal) (after : List ℕ) →
+  pub read_back : (buffer : List ℕ) → 2 * (size_of s - 1) ≤ length buffer → (read : NumberAndRow) (after : List ℕ) →
       MergeReads (size_of s) (take (2 * (size_of s - 1)) out') buffer read after →
       (read.number ≡ 0) × (take (2 * (size_of s - 1)) after ≡ rows_on (parts s) (side_of side))
   unfolding written_table
@@ -266,8 +265,8 @@ module _ (s : List ℕ) (side : ℕ) (out : List ℤ) (answer : Refusal) (out' :
 
 -- ---- the rows alone decide a table
 
-rows_alone : (s : List ℕ) (side : ℕ) (out : List ℤ) (answer : Refusal) (out' : List ℤ) → MergeWrites s side out answer out' →
-    answer.number ≡ 0 → (s₂ : List ℕ) (side₂ : ℕ) (out₂ : List ℤ) (answer₂ : Refusal) (out₂' : List ℤ) →
+rows_alone : (s : List ℕ) (side : ℕ) (out : List ℤ) (answer : NumberAndRow) (out' : List ℤ) → MergeWrites s side out answer out' →
+    answer.number ≡ 0 → (s₂ : List ℕ) (side₂ : ℕ) (out₂ : List ℤ) (answer₂ : NumberAndRow) (out₂' : List ℤ) →
     MergeWrites s₂ side₂ out₂ answer₂ out₂' → answer₂.number ≡ 0 → size_of s₂ ≡ size_of s →
     rows_on (parts s₂) (side_of side₂) ≡ rows_on (parts s) (side_of side) →
     take (2 * (size_of s - 1)) out₂' ≡ take (2 * (size_of s - 1)) out'
@@ -284,11 +283,11 @@ unfolding is_side
 good-side side (inl e) = rw e refl
 good-side side (inr e) = rw e refl
 
-module _ (n : ℕ) (table : List ℤ) (out : List ℕ) (read : Refusal) (out' : List ℕ) (o : MergeReads n table out read out')
+module _ (n : ℕ) (table : List ℤ) (out : List ℕ) (read : NumberAndRow) (out' : List ℕ) (o : MergeReads n table out read out')
     (accepted : read.number ≡ 0) where
   pub written_back : (P : Parts) (side : ℕ) → P.size ≡ n → rows_on P (side_of side) ≡ take (2 * (n - 1)) out' → (side ≡ 1) ⊎ (side ≡ 2) →
-      (buffer : List ℕ) (into : Refusal) (buffer' : List ℕ) → Packs P buffer into buffer' → into.number ≡ 0 →
-      (places : List ℤ) → 2 * (n - 1) ≤ length places → (answer : Refusal) (after : List ℤ) →
+      (buffer : List ℕ) (into : NumberAndRow) (buffer' : List ℕ) → Packs P buffer into buffer' → into.number ≡ 0 →
+      (places : List ℤ) → 2 * (n - 1) ≤ length places → (answer : NumberAndRow) (after : List ℤ) →
       MergeWrites (take (length_of n) buffer') side places answer after →
       (answer.number ≡ 0) × (take (2 * (n - 1)) after ≡ table)
   unfolding written_table
@@ -369,11 +368,11 @@ module _ (P : Parts) (buffer : List ℕ) (some : 1 ≤ P.size) (most : P.size �
   unfolding pack_refusal_but_rows
   no_row-told = rest (λ a b c d e f g h. Alone (one_list a b c d e f g h)) list_alone
 
-  pub packed_but_rows : (answer : Refusal) (after : List ℕ) → Packs P buffer answer after → answer ≡ refused (pack_refusal_but_rows P buffer)
+  pub packed_but_rows : (answer : NumberAndRow) (after : List ℕ) → Packs P buffer answer after → answer ≡ refused (pack_refusal_but_rows P buffer)
   packed_but_rows answer after p = p.answers ∙ ap (told_in P) but_rows ∙ sym (told-alone P no_row-told)
 
 -- the rows of a table that was read, as parts have them
-module _ (n : ℕ) (table : List ℤ) (out : List ℕ) (read : Refusal) (out' : List ℕ) (o : MergeReads n table out read out')
+module _ (n : ℕ) (table : List ℤ) (out : List ℕ) (read : NumberAndRow) (out' : List ℕ) (o : MergeReads n table out read out')
     (accepted : read.number ≡ 0) (rows : List ℕ) (its_rows : rows ≡ take (2 * (n - 1)) out') where
   are_rows : rows ≡ rows_in n table
   are_rows = its_rows ∙ rows_are n table out read out' o accepted
@@ -386,10 +385,10 @@ module _ (n : ℕ) (table : List ℤ) (out : List ℕ) (read : Refusal) (out' : 
       let g = good n table out read out' o accepted in
       rw are_rows (tests_rule n table g.its-pairs g.named g.once)
 
-packs : (n : ℕ) (left right : List ℤ) (out out₂ : List ℕ) (read read₂ : Refusal) (out' out₂' : List ℕ) →
+packs : (n : ℕ) (left right : List ℤ) (out out₂ : List ℕ) (read read₂ : NumberAndRow) (out' out₂' : List ℕ) →
     MergeReads n left out read out' → read.number ≡ 0 → MergeReads n right out₂ read₂ out₂' → read₂.number ≡ 0 →
     (P : Parts) → P.size ≡ n → P.left_rows ≡ take (2 * (n - 1)) out' → P.right_rows ≡ take (2 * (n - 1)) out₂' →
-    (buffer : List ℕ) (answer : Refusal) (after : List ℕ) → Packs P buffer answer after → answer ≡ refused (pack_refusal_but_rows P buffer)
+    (buffer : List ℕ) (answer : NumberAndRow) (after : List ℕ) → Packs P buffer answer after → answer ≡ refused (pack_refusal_but_rows P buffer)
 packs n left right out out₂ read read₂ out' out₂' l a r b P size e f buffer answer after p =
     let g = (good n left out read out' l a).its-pairs in
     packed_but_rows P buffer (omega (arith, g.some, size)) (omega (arith, g.most, size))

@@ -35,8 +35,8 @@ use Rattle.record_fields.proofs.Tests.{one_to_one_perm}
 use Rattle.record_arrays.specs.Sides.{side_of, RecordOver}
 use Rattle.record_arrays.specs.Shown.{shown_order}
 use Rattle.record_arrays.proofs.AsItStands.{over_its_leaves, side-leaves, side-perm}
-use Rattle.calls_newick.specs.declared.answers.NewickRead.{NewickRead}
-use Rattle.calls_newick.specs.declared.answers.NewickWritten.{NewickWritten}
+use Rattle.calls_newick.specs.Answers.{NewickRead}
+use Rattle.calls_newick.specs.Answers.{NewickWritten}
 use Rattle.calls_newick.specs.Refusals.{is_read, said_in, keeps_grammar, said, is_numbered, newick_read_refusal, written_text, newick_write_refusal}
 use Rattle.calls_newick.specs.Calls.{NewickReads, NewickWrites}
 use Rattle.calls_newick.proofs.Outcomes.{reading_18, reading_19, reading_14, reading_0, writing-good}

@@ -32,8 +32,8 @@ use Rattle.record_arrays.specs.Sides.{side_of}
 use Rattle.record_arrays.specs.Shown.{shown_order, shown_count}
 use Rattle.record_arrays.proofs.AsItStands.{over_its_leaves, side-leaves}
 use Rattle.record_arrays.proofs.OneRow.{set_keeps}
-use Rattle.calls_turns.specs.declared.answers.Freed.{Freed}
-use Rattle.calls_turns.specs.declared.answers.Ran.{Ran}
+use Rattle.calls_turns.specs.Answers.{Freed}
+use Rattle.calls_turns.specs.Answers.{Ran}
 use Rattle.calls_turns.specs.Refusals.{free_refusal, run_refusal}
 use Rattle.calls_turns.specs.Calls.{freed_layouts, ran_to, Frees, Runs}
 use Rattle.calls_turns.proofs.Turns.{freeing_good, running_good}

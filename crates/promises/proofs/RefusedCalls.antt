@@ -9,16 +9,16 @@ use lib.ListN.{length}
 use Rattle.record_fields.specs.Fields.{hold_of, size_of, parts, packed}
 use Rattle.record_fields.specs.Refusals.{refusal, set_hold_refusal}
 use Rattle.record_fields.proofs.Refused.{lent-refused, zero-refused}
-use Rattle.record.specs.declared.reading.Reading.{Reading}
+use Rattle.record.specs.Calls.{Reading}
 use Rattle.record.specs.declared.reading.Reading.TheVariants as reading
 use Rattle.record.specs.Calls.{reading_refusal, hold_in, size_in}
 use Rattle.record_unpacking.specs.Refusals.{unpack_refusal}
 use Rattle.record_packing.specs.Refusals.{pack_refusal}
-use Rattle.calls_show.specs.declared.answers.SquaredEntanglement.{SquaredEntanglement}
-use Rattle.calls_show.specs.declared.answers.SquaredEntanglement.TheVariants.{Ratio, NoRatio, Refused}
+use Rattle.calls_show.specs.Answers.{SquaredEntanglement}
+use Rattle.calls_show.specs.Answers.{Ratio, NoRatio, Refused}
 use Rattle.calls_show.specs.Refusals.{order_refusal}
-use Rattle.calls_show.specs.declared.answers.InThousandths.{InThousandths}
-use Rattle.calls_show.specs.declared.answers.InThousandths.TheVariants as in_thousandths
+use Rattle.calls_show.specs.InThousandths.{InThousandths}
+use Rattle.calls_show.specs.InThousandths as in_thousandths
 use Rattle.calls_show.specs.Calls.{squared_entanglement, squared_refusal, displaced_in, worst_in, ratio_in}
 use Rattle.calls_show.specs.Calls.{thousandths_refusal, thousandths_in}
 use Rattle.calls_turns.specs.Refusals.{free_refusal, run_refusal}

@@ -9,12 +9,11 @@ use Rattle.tanglegram.specs.Lists.{Each}
 use Rattle.tanglegram.specs.Order.{byte}
 use Rattle.tanglegram.specs.Table.{layout}
 use Rattle.record_fields.specs.Told.{row_for}
-use Rattle.record_fields.specs.declared.refusal.Refusal.{Refusal}
 use Rattle.record_fields.specs.Fields.{hold_of, size_of, right_at, links_at, left_layout_at, right_layout_at, length_of}
 use Rattle.record_fields.specs.Fields.{Parts, given, parts, parts_of}
 use Rattle.record_fields.specs.Fields.{packed}
 use Rattle.record_fields.specs.Refusals.{refusal}
-use Rattle.record_fields.specs.Refused.{lent}
+use Rattle.record_fields.specs.Refused.{NumberAndRow, lent}
 use Rattle.record_fields.specs.Meaning.{layouts_in}
 use Rattle.record_fields.proofs.Stores.{length-numbers, length-bytes}
 use Rattle.record_fields.proofs.Acceptance.{accepted-sized}
@@ -51,12 +50,12 @@ came_to s left right links left_layout right_layout o u z =
     }
 
 -- what packing writes into the first places of its buffer
-pub left-packed : (P : Parts) (out : List ℕ) (answer : Refusal) (after : List ℕ) → Packs P out answer after → pack_refusal P out ≡ 0 →
+pub left-packed : (P : Parts) (out : List ℕ) (answer : NumberAndRow) (after : List ℕ) → Packs P out answer after → pack_refusal P out ≡ 0 →
     (m : ℕ) → length (packed P) ≡ m → take m after ≡ packed P
 left-packed P out answer after p e m l =
     ap (take m) (p.afterwards ∙ sym (lent-accepted (pack_refusal P out) (packed P) out e)) ∙ take_at (packed P) _ m l
 
-there : (P : Parts) (out : List ℕ) (answer : Refusal) (after : List ℕ) → Packs P out answer after → answer.number ≡ 0 →
+there : (P : Parts) (out : List ℕ) (answer : NumberAndRow) (after : List ℕ) → Packs P out answer after → answer.number ≡ 0 →
     (left right links left_layout right_layout : List ℕ) → RoomFor P left right links left_layout right_layout → (o : UnpackOutcome) →
     UnpacksTo (take (length_of P.size) after) left right links left_layout right_layout o → CameTo P o
 there P out answer after p a left right links left_layout right_layout r o u =
@@ -101,7 +100,7 @@ parts_in_are s o e c =
 
 read_back : (s left right links left_layout right_layout : List ℕ) → Each (λ b. b < 256) s → (o : UnpackOutcome) →
     UnpacksTo s left right links left_layout right_layout o → o.answer.refusal.number ≡ 0 →
-    (out : List ℕ) → length s ≤ length out → (answer : Refusal) (after : List ℕ) → Packs (parts_in o) out answer after →
+    (out : List ℕ) → length s ≤ length out → (answer : NumberAndRow) (after : List ℕ) → Packs (parts_in o) out answer after →
     (answer.number ≡ 0) × (take (length s) after ≡ s)
 read_back s left right links left_layout right_layout small o u a out h answer after p =
     let z : unpack_refusal s left right links left_layout right_layout ≡ 0 = sym (ap (λ a. a.refusal.number) u.answers) ∙ a in

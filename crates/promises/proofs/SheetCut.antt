@@ -16,7 +16,7 @@ use Rattle.record_fields.specs.Refused.{refused}
 use Rattle.record_fields.specs.Told.{row_for, told_of}
 use Rattle.record_fields.proofs.Acceptance.{refusal_heading}
 use Rattle.record_fields.proofs.Heading.{heading_good, sized}
-use Rattle.calls_show.specs.declared.answers.InThousandths.TheVariants.{Refused}
+use Rattle.calls_show.specs.InThousandths.{Refused}
 use Rattle.calls_sheet.specs.Lines.{refused_line}
 use Rattle.calls_sheet.specs.Sheet.{Sheet, ThirdNumber}
 use Rattle.promises.proofs.SheetLines.{sheet-refused}

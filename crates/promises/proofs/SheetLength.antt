@@ -23,9 +23,8 @@ use Rattle.work_text.proofs.Spaced.{line-length}
 use Rattle.record_fields.specs.Fields.{two, version_at, length_of, hold_of, size_of, Parts, parts, parts_of, most_turns}
 use Rattle.record_fields.specs.Refusals.{◌when◌else◌, or_else, refusal, heading_refusal, contents_refusal}
 use Rattle.record_fields.specs.Refusals.{is_mark, is_hold, no_size, breaks_rule, one_to_one, is_layout}
-use Rattle.record_fields.specs.Refused.{accepted}
+use Rattle.record_fields.specs.Refused.{NumberAndRow, accepted}
 use Rattle.record_fields.specs.Told.{told_of, SaysRow}
-use Rattle.record_fields.specs.declared.refusal.Refusal.{Refusal}
 use Rattle.record_fields.specs.Meaning.{table_of, layouts_of}
 use Rattle.record_fields.proofs.Acceptance.{accepted-sized, refusal_heading}
 use Rattle.record_fields.proofs.Heading.{heading_good}
@@ -33,8 +32,8 @@ use Rattle.record_fields.proofs.SaysRow.{told_row}
 use Rattle.record_fields.proofs.Meaning.{accepted_fair, accepted_fits}
 use Rattle.record_arrays.specs.Sides.{holds}
 use Rattle.record_arrays.specs.Shown.{shown_count, shown_displacement}
-use Rattle.calls_show.specs.declared.answers.InThousandths.{InThousandths}
-use Rattle.calls_show.specs.declared.answers.InThousandths.TheVariants.{Ratio, NoRatio, Refused}
+use Rattle.calls_show.specs.InThousandths.{InThousandths}
+use Rattle.calls_show.specs.InThousandths.{Ratio, NoRatio, Refused}
 use Rattle.calls_show.specs.Calls.{ThousandthsOf, thousandths_in}
 use Rattle.calls_show.proofs.Shown.{displacement-at-most}
 use Rattle.calls_turns.specs.Refusals.{no_allowance, run_refusal}
@@ -180,7 +179,7 @@ row-most {P} {number} {row} p h = go (eqb number 7) refl (eqb number 8) refl
         omega (arith, (p.exactly.0 eight).1, h eight)
     go false e false f = omega (arith, p.no_row (eqb-false number 7 e) (eqb-false number 8 f))
 
-refused-line-most : (r : Refusal) → r.number ≤ 12 → r.row < 512 → length (refused_line r) ≤ 30
+refused-line-most : (r : NumberAndRow) → r.number ≤ 12 → r.row < 512 → length (refused_line r) ≤ 30
 refused-line-most r n h = go r.row h
   where
     go : (row : ℕ) → row < 512 → length (line (ascii "REFUSED") (r.number ∷ row_told row)) ≤ 30

@@ -18,7 +18,7 @@ use Rattle.record_fields.specs.Refused.{accepted, or_zero}
 use Rattle.record_fields.specs.Told.{told_of}
 use Rattle.record_fields.specs.Meaning.{table_of}
 use Rattle.record_arrays.specs.Shown.{shown_count, shown_displacement}
-use Rattle.calls_turns.specs.declared.answers.Ran.{Ran}
+use Rattle.calls_turns.specs.Answers.{Ran}
 use Rattle.calls_turns.specs.Refusals.{run_refusal}
 use Rattle.calls_turns.specs.Calls.{Runs, ran_to}
 use Rattle.calls_turns.proofs.Turns.{running_good}

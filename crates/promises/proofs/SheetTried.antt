@@ -15,7 +15,7 @@ use Rattle.work_text.specs.Lines.{ascii}
 use Rattle.record_fields.specs.Fields.{numbers, split, parts_of, packed}
 use Rattle.record_fields.specs.Refusals.{all, is_mark, is_hold, no_size, breaks_rule, one_to_one, is_layout, contents_refusal, heading_refusal}
 use Rattle.record_fields.specs.Refusals.{refusal}
-use Rattle.calls_show.specs.declared.answers.InThousandths.TheVariants.{Ratio}
+use Rattle.calls_show.specs.InThousandths.{Ratio}
 use Rattle.calls_sheet.specs.Sheet.{ThirdNumber, Sheet}
 use Rattle.promises.specs.Cases.{held_record_of, record_of}
 use Rattle.promises.specs.SheetTried as SheetTried

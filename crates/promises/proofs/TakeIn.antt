@@ -20,8 +20,8 @@ use Rattle.tanglegram.proofs.Order.{order-perm}
 use Rattle.tanglegram.proofs.PinnedAs.{turned-pinned_as, may_change-pinned_as, pinned_as-small, layout-bytes-only, against_choice}
 use Rattle.tanglegram.proofs.Table.{free-least, free_fits, free-small, free_marks, put_same}
 use Rattle.tanglegram.proofs.TakenIn.{SamePins, put_fits, least_exactly, same-freed, free_choice, put-freed}
+use Rattle.record_fields.specs.Refused.{NumberAndRow}
 use Rattle.record_fields.specs.Fields.{size_of, parts}
-use Rattle.record_fields.specs.declared.refusal.Refusal.{Refusal}
 use Rattle.record_fields.specs.Refusals.{is_layout, refusal, set_hold_refusal}
 use Rattle.record_fields.specs.Meaning.{table_of, layouts_of, relaid}
 use Rattle.record_fields.proofs.Acceptance.{accepted-sized, accepted-parts, accepted_heading, holding_accepted}
@@ -36,14 +36,14 @@ use Rattle.record_arrays.specs.Shown.{shown_order, shown_count}
 use Rattle.record_arrays.proofs.AsItStands.{over_its_leaves, side-leaves, length_part}
 use Rattle.record_arrays.proofs.OneRow.{row_small}
 use Rattle.record_orders.specs.Proposed.{is_order}
-use Rattle.calls_show.specs.declared.answers.Counted.{Counted}
+use Rattle.calls_show.specs.Answers.{Counted}
 use Rattle.calls_show.specs.Calls.{Counts}
-use Rattle.calls_turns.specs.declared.answers.Freed.{Freed}
+use Rattle.calls_turns.specs.Answers.{Freed}
 use Rattle.calls_turns.specs.Refusals.{free_refusal}
 use Rattle.calls_turns.specs.Calls.{freed_layouts, Frees}
 use Rattle.calls_turns.proofs.Turns.{freeing_good}
 use Rattle.calls_turns.proofs.Freed.{freed-layouts}
-use Rattle.calls_take_in.specs.declared.answers.TakenIn.{TakenIn}
+use Rattle.calls_take_in.specs.Answers.{TakenIn}
 use Rattle.calls_take_in.specs.Refusals.{shown_on, take_in_refusal}
 use Rattle.calls_take_in.specs.Calls.{taken_bytes, taken_layouts, gains_nothing, TakesIn}
 use Rattle.calls_take_in.proofs.Taken.{Good, length_taken, taking_13, taking_record, taking_then, taking_good}
@@ -389,7 +389,7 @@ module _ (s s' : List ℕ) (letter : ℕ) (same : parts s' ≡ reheld_in (parts 
     afterwards = t.afterwards ∙ rw (same_refusal, same, size) refl;
   }
 
-held_alike : (s : List ℕ) (letter : ℕ) (set : Refusal) (s' : List ℕ) → SetsHold s letter set s' → (side : ℕ) (xs out : List ℕ)
+held_alike : (s : List ℕ) (letter : ℕ) (set : NumberAndRow) (s' : List ℕ) → SetsHold s letter set s' → (side : ℕ) (xs out : List ℕ)
     {answer : TakenIn} {out' : List ℕ} → TakesIn s' side xs out answer out' → TakesIn s side xs out answer out'
 held_alike s letter set s' p side xs out {answer} {out'} =
     afterwards (λ r. TakesIn r side xs out answer out' → TakesIn s side xs out answer out') (set_hold_refusal s letter) p.afterwards

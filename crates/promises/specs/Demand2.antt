@@ -9,14 +9,14 @@ use Rattle.tanglegram.specs.declared.side.Side.{Side}
 use Rattle.tanglegram.specs.declared.side.Side.TheVariants.{Left as left, Right as right}
 use Rattle.tanglegram.specs.Run.{other}
 use Rattle.tanglegram.specs.Table.{layout, put, Least}
-use Rattle.record_fields.specs.declared.refusal.Refusal.{Refusal}
+use Rattle.record_fields.specs.Refused.{NumberAndRow}
 use Rattle.record_fields.specs.Fields.{size_of, parts}
 use Rattle.record_fields.specs.Meaning.{table_of, layouts_of}
 use Rattle.record_arrays.specs.Sides.{side_of}
 use Rattle.record_arrays.specs.Shown.{shown_order, shown_count, own_crossings}
-use Rattle.calls_show.specs.declared.answers.Counted.{Counted}
+use Rattle.calls_show.specs.Answers.{Counted}
 use Rattle.calls_show.specs.Calls.{Orders, Counts}
-use Rattle.calls_turns.specs.declared.answers.Freed.{Freed}
+use Rattle.calls_turns.specs.Answers.{Freed}
 use Rattle.calls_turns.specs.Calls.{Frees}
 use Rattle.promises.specs.RoundTrip.{RoundTrip}
 
@@ -40,7 +40,7 @@ pub record FreeKeeps (s : List ℕ) (side : Side) (s' : List ℕ) : Type 0 where
 
 pub record Demand2 : Type 0 where
   -- "Orders .. are those of the published tanglegram definition": the one that the side's layout gives, and compatible with its tree.
-  pub order_given : (s : List ℕ) (side : ℕ) (out : List ℕ) (answer : Refusal) (out' : List ℕ) →
+  pub order_given : (s : List ℕ) (side : ℕ) (out : List ℕ) (answer : NumberAndRow) (out' : List ℕ) →
       Orders s side out answer out' → answer.number ≡ 0 →
       (take (size_of s) out' ≡ order (layout (layouts_of s) (side_of side)) ((table_of s).tree (side_of side))) ×
       Compatible ((table_of s).tree (side_of side)) (take (size_of s) out')

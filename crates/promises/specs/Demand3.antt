@@ -9,7 +9,7 @@ use Rattle.tanglegram.specs.Table.{Layouts, crossings, free, Least}
 use Rattle.record_fields.specs.Fields.{hold_of}
 use Rattle.record_fields.specs.Refusals.{refusal}
 use Rattle.record_fields.specs.Meaning.{table_of, layouts_of, relaid}
-use Rattle.calls_turns.specs.declared.answers.Ran.{Ran}
+use Rattle.calls_turns.specs.Answers.{Ran}
 use Rattle.record_arrays.specs.Shown.{shown_count}
 use Rattle.calls_turns.specs.Calls.{Runs}
 

@@ -9,8 +9,8 @@ use Rattle.std.specs.Float.Ieee.Exact.{HasValue}
 use Rattle.tanglegram.specs.Entanglement.{worst, Thousandths}
 use Rattle.record_fields.specs.Fields.{size_of}
 use Rattle.record_arrays.specs.Shown.{shown_displacement}
-use Rattle.calls_show.specs.declared.answers.SquaredEntanglement.{SquaredEntanglement}
-use Rattle.calls_show.specs.declared.answers.InThousandths.{InThousandths}
+use Rattle.calls_show.specs.Answers.{SquaredEntanglement}
+use Rattle.calls_show.specs.InThousandths.{InThousandths}
 use Rattle.calls_show.specs.Calls.{SquaredEntangles, squared_refusal, displaced_in, worst_in, ratio_in}
 use Rattle.calls_show.specs.Calls.{TellsThousandths, thousandths_refusal, thousandths_in}
 

@@ -10,13 +10,12 @@ use Rattle.tanglegram.specs.Examples.{Case, Shown, Line, bytes_of, case_own, cas
 use Rattle.newick.specs.Sentence.{leaf_count}
 use Rattle.newick.specs.Rows.{rows_of}
 use Rattle.record_fields.specs.Refusals.{refusal}
-use Rattle.record_fields.specs.declared.refusal.Refusal.{Refusal}
-use Rattle.record_fields.specs.Refused.{refused_row, accepted, lent, or_zero}
+use Rattle.record_fields.specs.Refused.{NumberAndRow, refused_row, accepted, lent, or_zero}
 use Rattle.record_fields.specs.Told.{told_of}
 use Rattle.record_fields.specs.Meaning.{table_of}
 use Rattle.record_arrays.specs.Shown.{shown_order, shown_count}
-use Rattle.calls_show.specs.declared.answers.InThousandths.{InThousandths}
-use Rattle.calls_show.specs.declared.answers.InThousandths.TheVariants as in_thousandths
+use Rattle.calls_show.specs.InThousandths.{InThousandths}
+use Rattle.calls_show.specs.InThousandths as in_thousandths
 use Rattle.calls_show.specs.Calls.{squared_entanglement, displaced_in, worst_in, ratio_in, TellsThousandths}
 use Rattle.calls_turns.specs.Refusals.{free_refusal, run_refusal}
 use Rattle.calls_turns.specs.Calls.{freed_layouts, ran_to}
@@ -33,9 +32,9 @@ use Rattle.promises.specs.SheetExamples.{sheets_are, sheets_told}
 -- What the calls' definitions say of a case's record: the refusals, with their rows, of reading it, of freeing its left and of running it;
 -- then what a line shows, which is nothing but the number and the row where it is refused.
 pub record Called : Type 0 where
-  pub read_refused : Refusal
-  pub free_refused : Refusal
-  pub run_refused : Refusal
+  pub read_refused : NumberAndRow
+  pub free_refused : NumberAndRow
+  pub run_refused : NumberAndRow
   pub shown : Shown
 
 abbrev is_ratio : Option Float → Bool

@@ -3,12 +3,12 @@
 use Rattle.std.specs.Prelude.{ℕ, ◌≡◌, true, List, length, take}
 use Rattle.tanglegram.specs.declared.side.Side.{Side}
 use Rattle.tanglegram.specs.Table.{layout}
+use Rattle.record_fields.specs.Refused.{NumberAndRow}
 use Rattle.record_fields.specs.Fields.{hold_of, size_of, left_layout_at, parts}
 use Rattle.record_fields.specs.Refusals.{refusal}
 use Rattle.record_fields.specs.Meaning.{table_of, layouts_of}
-use Rattle.record_fields.specs.declared.refusal.Refusal.{Refusal}
-use Rattle.calls_turns.specs.declared.answers.Freed.{Freed}
-use Rattle.calls_turns.specs.declared.answers.Ran.{Ran}
+use Rattle.calls_turns.specs.Answers.{Freed}
+use Rattle.calls_turns.specs.Answers.{Ran}
 use Rattle.record_arrays.specs.Sides.{holds}
 use Rattle.record_arrays.specs.Shown.{shown_order}
 use Rattle.calls_hands.specs.Refusals.{Hand}
@@ -34,4 +34,4 @@ pub record Keeps (s s' : List ℕ) : Type 0 where
 pub record HeldStays : Type 0 where
   pub free : (s : List ℕ) (side : ℕ) (answer : Freed) (s' : List ℕ) → Frees s side answer s' → Keeps s s'
   pub run : (s : List ℕ) (allowance : ℕ) (answer : Ran) (s' : List ℕ) → Runs s allowance answer s' → Keeps s s'
-  pub hands : (s : List ℕ) (hands : List Hand) (answer : Refusal) (s' : List ℕ) → Hands s hands answer s' → Keeps s s'
+  pub hands : (s : List ℕ) (hands : List Hand) (answer : NumberAndRow) (s' : List ℕ) → Hands s hands answer s' → Keeps s s'

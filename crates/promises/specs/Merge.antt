@@ -7,11 +7,10 @@ use Rattle.tanglegram.specs.Tree.{Rule}
 use Rattle.work_trees.specs.Rows.{upper, lower}
 use Rattle.merge.specs.Entries.{Names}
 use Rattle.merge.specs.Tables.{rows_in, Pairs, EntryNone, EntryTwice}
-use Rattle.record_fields.specs.declared.refusal.Refusal.{Refusal}
 use Rattle.record_fields.specs.Fields.{size_of, length_of, Parts, parts}
 use Rattle.record_fields.specs.Meaning.{rows_on}
 use Rattle.record_fields.specs.Refusals.{◌when◌else◌, is_hold, one_to_one, is_layout}
-use Rattle.record_fields.specs.Refused.{refused}
+use Rattle.record_fields.specs.Refused.{NumberAndRow, refused}
 use Rattle.record_arrays.specs.Sides.{side_of}
 use Rattle.record_packing.specs.Calls.{Packs}
 use Rattle.calls_merge.specs.Calls.{MergeReads, MergeWrites}
@@ -34,7 +33,7 @@ pub data Tells (n : ℕ) (table : List ℤ) (out : List ℕ) : ℕ → Type 0 wh
 abbrev pub KeepsRule : ℕ → List ℕ → Type 0
 KeepsRule n rows = Rule n (upper rows) (lower rows)
 
-pub record TableReading (n : ℕ) (table : List ℤ) (out : List ℕ) (answer : Refusal) (out' : List ℕ) : Type 0 where
+pub record TableReading (n : ℕ) (table : List ℤ) (out : List ℕ) (answer : NumberAndRow) (out' : List ℕ) : Type 0 where
   -- Each number is told exactly then; there is no other, and none comes with a row.
   pub exactly : (k : ℕ) → (answer.number ≡ k) ↔ Tells n table out k
   pub no_row : answer.row ≡ 0
@@ -72,32 +71,32 @@ pack_refusal_but_rows P out =
 -- ---- all of it
 
 pub record Merge : Type 0 where
-  pub reading : (n : ℕ) (table : List ℤ) (out : List ℕ) (answer : Refusal) (out' : List ℕ) → MergeReads n table out answer out' →
+  pub reading : (n : ℕ) (table : List ℤ) (out : List ℕ) (answer : NumberAndRow) (out' : List ℕ) → MergeReads n table out answer out' →
       TableReading n table out answer out'
-  pub writing : (s : List ℕ) (side : ℕ) (out : List ℤ) (answer : Refusal) (out' : List ℤ) → MergeWrites s side out answer out' →
+  pub writing : (s : List ℕ) (side : ℕ) (out : List ℤ) (answer : NumberAndRow) (out' : List ℤ) → MergeWrites s side out answer out' →
       answer.number ≡ 0 → TableWriting s side out out'
   -- The rows alone decide a table: two sides with the same rows are written alike, whatever their records' layouts, holds, links and other
   -- sides are.
-  pub rows_alone : (s : List ℕ) (side : ℕ) (out : List ℤ) (answer : Refusal) (out' : List ℤ) → MergeWrites s side out answer out' →
-      answer.number ≡ 0 → (s₂ : List ℕ) (side₂ : ℕ) (out₂ : List ℤ) (answer₂ : Refusal) (out₂' : List ℤ) →
+  pub rows_alone : (s : List ℕ) (side : ℕ) (out : List ℤ) (answer : NumberAndRow) (out' : List ℤ) → MergeWrites s side out answer out' →
+      answer.number ≡ 0 → (s₂ : List ℕ) (side₂ : ℕ) (out₂ : List ℤ) (answer₂ : NumberAndRow) (out₂' : List ℤ) →
       MergeWrites s₂ side₂ out₂ answer₂ out₂' → answer₂.number ≡ 0 → size_of s₂ ≡ size_of s →
       rows_on (parts s₂) (side_of side₂) ≡ rows_on (parts s) (side_of side) →
       take (2 * (size_of s - 1)) out₂' ≡ take (2 * (size_of s - 1)) out'
   -- "Rows to table and back gives the rows again": a side written, and its table read into a buffer with room.
-  pub rows_back : (s : List ℕ) (side : ℕ) (out : List ℤ) (written : Refusal) (out' : List ℤ) → MergeWrites s side out written out' →
-      written.number ≡ 0 → (buffer : List ℕ) → 2 * (size_of s - 1) ≤ length buffer → (answer : Refusal) (after : List ℕ) →
+  pub rows_back : (s : List ℕ) (side : ℕ) (out : List ℤ) (written : NumberAndRow) (out' : List ℤ) → MergeWrites s side out written out' →
+      written.number ≡ 0 → (buffer : List ℕ) → 2 * (size_of s - 1) ≤ length buffer → (answer : NumberAndRow) (after : List ℕ) →
       MergeReads (size_of s) (take (2 * (size_of s - 1)) out') buffer answer after →
       (answer.number ≡ 0) × (take (2 * (size_of s - 1)) after ≡ rows_on (parts s) (side_of side))
   -- "and so the other way": a table read, its rows packed as a side's, and that side of the record written into a buffer with room.
-  pub table_back : (n : ℕ) (table : List ℤ) (out : List ℕ) (read : Refusal) (out' : List ℕ) → MergeReads n table out read out' →
+  pub table_back : (n : ℕ) (table : List ℤ) (out : List ℕ) (read : NumberAndRow) (out' : List ℕ) → MergeReads n table out read out' →
       read.number ≡ 0 → (P : Parts) (side : ℕ) → P.size ≡ n → rows_on P (side_of side) ≡ take (2 * (n - 1)) out' → (side ≡ 1) ⊎ (side ≡ 2) →
-      (buffer : List ℕ) (packed : Refusal) (buffer' : List ℕ) → Packs P buffer packed buffer' → packed.number ≡ 0 →
-      (places : List ℤ) → 2 * (n - 1) ≤ length places → (answer : Refusal) (after : List ℤ) →
+      (buffer : List ℕ) (packed : NumberAndRow) (buffer' : List ℕ) → Packs P buffer packed buffer' → packed.number ≡ 0 →
+      (places : List ℤ) → 2 * (n - 1) ≤ length places → (answer : NumberAndRow) (after : List ℤ) →
       MergeWrites (take (length_of n) buffer') side places answer after →
       (answer.number ≡ 0) × (take (2 * (n - 1)) after ≡ table)
   -- Rows read of two tables over n leaves are packed as far as rows go: packing refuses them only for the rest.
-  pub packs : (n : ℕ) (left right : List ℤ) (out out₂ : List ℕ) (read read₂ : Refusal) (out' out₂' : List ℕ) →
+  pub packs : (n : ℕ) (left right : List ℤ) (out out₂ : List ℕ) (read read₂ : NumberAndRow) (out' out₂' : List ℕ) →
       MergeReads n left out read out' → read.number ≡ 0 → MergeReads n right out₂ read₂ out₂' → read₂.number ≡ 0 →
       (P : Parts) → P.size ≡ n → P.left_rows ≡ take (2 * (n - 1)) out' → P.right_rows ≡ take (2 * (n - 1)) out₂' →
-      (buffer : List ℕ) (answer : Refusal) (after : List ℕ) → Packs P buffer answer after →
+      (buffer : List ℕ) (answer : NumberAndRow) (after : List ℕ) → Packs P buffer answer after →
       answer ≡ refused (pack_refusal_but_rows P buffer)

@@ -19,8 +19,8 @@ use Rattle.record_fields.specs.Fields.{size_of, parts}
 use Rattle.record_fields.specs.Meaning.{tree_in, rows_on, table_of, layouts_of}
 use Rattle.record_arrays.specs.Sides.{side_of}
 use Rattle.record_arrays.specs.Shown.{shown_order}
-use Rattle.calls_newick.specs.declared.answers.NewickRead.{NewickRead}
-use Rattle.calls_newick.specs.declared.answers.NewickWritten.{NewickWritten}
+use Rattle.calls_newick.specs.Answers.{NewickRead}
+use Rattle.calls_newick.specs.Answers.{NewickWritten}
 use Rattle.calls_newick.specs.Calls.{NewickReads, NewickWrites}
 
 -- A sentence's leaves are 1 to n, each once, and n is at most 512.

@@ -4,7 +4,7 @@ use Rattle.std.specs.Prelude.{ℕ, ◌≡◌, Bool, List, ℤ}
 use Rattle.record_fields.specs.Fields.{Parts}
 use Rattle.record_fields.specs.Fixes.{Fixes, FixesBoth}
 use Rattle.record.specs.Calls.{Checks, Reads, SetsHold}
-use Rattle.record_unpacking.specs.declared.unpacking.Unpacked.{Unpacked}
+use Rattle.record_unpacking.specs.Answers.{Unpacked}
 use Rattle.record_unpacking.specs.Calls.{Unpacks}
 use Rattle.record_packing.specs.Calls.{Packs}
 use Rattle.calls_show.specs.Calls.{Orders, Counts, SquaredEntangles, TellsThousandths}

@@ -3,9 +3,9 @@
 use Rattle.std.specs.Prelude.{ℕ, pred, ◌+◌, ◌≡◌, ◌≢◌, Bool, true, false, not, List, length, get_or}
 use Rattle.tanglegram.specs.Order.{turned, may_change}
 use Rattle.tanglegram.specs.declared.side.Side.{Side}
+use Rattle.record_fields.specs.Refused.{NumberAndRow}
 use Rattle.record_fields.specs.Fields.{hold_of, size_of}
 use Rattle.record_fields.specs.Refusals.{refusal}
-use Rattle.record_fields.specs.declared.refusal.Refusal.{Refusal}
 use Rattle.record_arrays.specs.Sides.{is_side, side_of, layout_at}
 use Rattle.record_arrays.specs.Rows.{no_row, row_byte}
 use Rattle.record_arrays.specs.Shown.{shown_order, shown_count, shown_displacement}
@@ -15,7 +15,7 @@ use Rattle.calls_newick.specs.Refusals.{written_text}
 use Rattle.calls_pins.specs.Calls.{Pins}
 use Rattle.promises.specs.HeldStays.{SameTrees}
 
-pub record PinOnly (s : List ℕ) (side row : ℕ) (pinned : Bool) (answer : Refusal) (s' : List ℕ) : Type 0 where
+pub record PinOnly (s : List ℕ) (side row : ℕ) (pinned : Bool) (answer : NumberAndRow) (s' : List ℕ) : Type 0 where
   -- The row is pinned afterwards, or it is not, as asked; and turned as it was, as every row is.
   pub pins_the_row : answer.number ≡ 0 → may_change (row_byte s' (side_of side) row) ≡ not pinned
   pub keeps_the_turnings : (x : Side) (i : ℕ) → turned (row_byte s' x i) ≡ turned (row_byte s x i)
@@ -45,5 +45,5 @@ pub record PinOnly (s : List ℕ) (side row : ℕ) (pinned : Bool) (answer : Ref
 
 abbrev pub PinPromise : Type 0
 PinPromise =
-    (s : List ℕ) (side row : ℕ) (pinned : Bool) (answer : Refusal) (s' : List ℕ) → Pins s side row pinned answer s' →
+    (s : List ℕ) (side row : ℕ) (pinned : Bool) (answer : NumberAndRow) (s' : List ℕ) → Pins s side row pinned answer s' →
     PinOnly s side row pinned answer s'

@@ -7,16 +7,16 @@ use Rattle.tanglegram.specs.Tree.{EachAbove}
 use Rattle.tanglegram.specs.Order.{turned, may_change, Choice}
 use Rattle.tanglegram.specs.declared.side.Side.{Side}
 use Rattle.tanglegram.specs.Table.{layout}
+use Rattle.record_fields.specs.Refused.{NumberAndRow}
 use Rattle.record_fields.specs.Fields.{size_of}
 use Rattle.record_fields.specs.Refusals.{refusal}
 use Rattle.record_fields.specs.Meaning.{table_of, layouts_of}
-use Rattle.record_fields.specs.declared.refusal.Refusal.{Refusal}
 use Rattle.record_arrays.specs.Sides.{side_of}
 use Rattle.record_arrays.specs.Rows.{row_byte}
 use Rattle.record_arrays.specs.Shown.{shown_order}
 use Rattle.record.specs.Calls.{SetsHold}
-use Rattle.calls_turns.specs.declared.answers.Freed.{Freed}
-use Rattle.calls_turns.specs.declared.answers.Ran.{Ran}
+use Rattle.calls_turns.specs.Answers.{Freed}
+use Rattle.calls_turns.specs.Answers.{Ran}
 use Rattle.calls_turns.specs.Calls.{Frees, Runs}
 use Rattle.calls_hands.specs.Refusals.{Hand}
 use Rattle.calls_hands.specs.Calls.{Hands}
@@ -52,10 +52,10 @@ pub record StoodStill (answer : Ran) : Type 0 where
 pub record PinnedStays : Type 0 where
   pub free : (s : List ℕ) (side : ℕ) (answer : Freed) (s' : List ℕ) → Frees s side answer s' → PinsKept s s'
   pub run : (s : List ℕ) (allowance : ℕ) (answer : Ran) (s' : List ℕ) → Runs s allowance answer s' → PinsKept s s'
-  pub hands : (s : List ℕ) (hands : List Hand) (answer : Refusal) (s' : List ℕ) → Hands s hands answer s' → PinsKept s s'
-  pub set_hold : (s : List ℕ) (letter : ℕ) (answer : Refusal) (s' : List ℕ) → SetsHold s letter answer s' → PinsKept s s'
+  pub hands : (s : List ℕ) (hands : List Hand) (answer : NumberAndRow) (s' : List ℕ) → Hands s hands answer s' → PinsKept s s'
+  pub set_hold : (s : List ℕ) (letter : ℕ) (answer : NumberAndRow) (s' : List ℕ) → SetsHold s letter answer s' → PinsKept s s'
   -- Pinning and unpinning, whose byte it is to change, turns no row over, pinned or not.
-  pub pin : (s : List ℕ) (side row : ℕ) (pinned : Bool) (answer : Refusal) (s' : List ℕ) → Pins s side row pinned answer s' →
+  pub pin : (s : List ℕ) (side row : ℕ) (pinned : Bool) (answer : NumberAndRow) (s' : List ℕ) → Pins s side row pinned answer s' →
       (x : Side) (i : ℕ) → turned (row_byte s' x i) ≡ turned (row_byte s x i)
   -- Freeing a side of which every row is pinned changes nothing, and answers equal counts.
   pub free_all_pinned : (s : List ℕ) (side : ℕ) (answer : Freed) (s' : List ℕ) → Frees s side answer s' →

@@ -5,9 +5,8 @@ use Rattle.tanglegram.specs.Lists.{Each}
 use Rattle.tanglegram.specs.Order.{byte}
 use Rattle.tanglegram.specs.declared.side.Side.{Side}
 use Rattle.tanglegram.specs.Table.{layout}
-use Rattle.record_fields.specs.declared.refusal.Refusal.{Refusal}
 use Rattle.record_fields.specs.Fields.{length_of, Parts, given}
-use Rattle.record_fields.specs.Refused.{refused}
+use Rattle.record_fields.specs.Refused.{NumberAndRow, refused}
 use Rattle.record_fields.specs.Meaning.{layouts_in}
 use Rattle.record_arrays.specs.Rows.{row_byte}
 use Rattle.record_packing.specs.Calls.{Packs}
@@ -39,18 +38,18 @@ parts_in o =
 
 pub record RoundTrip : Type 0 where
   -- Parts packed into a buffer, and the buffer's first 12n-2 bytes unpacked into buffers with room.
-  pub packed_then_unpacked : (P : Parts) (out : List ℕ) (answer : Refusal) (after : List ℕ) →
+  pub packed_then_unpacked : (P : Parts) (out : List ℕ) (answer : NumberAndRow) (after : List ℕ) →
       Packs P out answer after → answer.number ≡ 0 →
       (left right links left_layout right_layout : List ℕ) → RoomFor P left right links left_layout right_layout → (o : UnpackOutcome) →
       UnpacksTo (take (length_of P.size) after) left right links left_layout right_layout o → CameTo P o
   -- A record's bytes unpacked, and what came of it packed into a buffer with room.
   pub unpacked_then_packed : (s left right links left_layout right_layout : List ℕ) → Each (λ b. b < 256) s → (o : UnpackOutcome) →
       UnpacksTo s left right links left_layout right_layout o → o.answer.refusal.number ≡ 0 →
-      (out : List ℕ) → length s ≤ length out → (answer : Refusal) (after : List ℕ) → Packs (parts_in o) out answer after →
+      (out : List ℕ) → length s ≤ length out → (answer : NumberAndRow) (after : List ℕ) → Packs (parts_in o) out answer after →
       (answer.number ≡ 0) × (take (length s) after ≡ s)
   -- A row of the record that packing makes has the byte that its layout had, and a row's byte that unpacking writes is the record's: 2
   -- and 3 as they are.
-  pub pins_packed : (P : Parts) (out : List ℕ) (answer : Refusal) (after : List ℕ) → Packs P out answer after → answer.number ≡ 0 →
+  pub pins_packed : (P : Parts) (out : List ℕ) (answer : NumberAndRow) (after : List ℕ) → Packs P out answer after → answer.number ≡ 0 →
       (side : Side) (row : ℕ) → row_byte (take (length_of P.size) after) side row ≡ byte (layout (layouts_in P) side) row
   pub pins_unpacked : (s left right links left_layout right_layout : List ℕ) (o : UnpackOutcome) →
       UnpacksTo s left right links left_layout right_layout o → o.answer.refusal.number ≡ 0 →

@@ -6,7 +6,7 @@ use Rattle.newick.specs.Sentence.{value}
 use Rattle.newick.specs.Writing as newick
 use Rattle.work_text.specs.Decimal.{decimal}
 use Rattle.record_fields.specs.Fields.{most_turns}
-use Rattle.calls_turns.specs.declared.answers.Ran.{Ran}
+use Rattle.calls_turns.specs.Answers.{Ran}
 use Rattle.calls_turns.specs.Calls.{Runs}
 use Rattle.calls_sheet.specs.Sheet.{Sheet}
 use Rattle.calls_sheet.specs.Calls.{SaysLine}

@@ -9,7 +9,7 @@ use Rattle.tanglegram.specs.Lists.{Each}
 use Rattle.tanglegram.specs.Order.{may_change, byte, order, Choice, Compatible}
 use Rattle.tanglegram.specs.declared.side.Side.{Side}
 use Rattle.tanglegram.specs.Table.{layout, put, crossings}
-use Rattle.record_fields.specs.declared.refusal.Refusal.{Refusal}
+use Rattle.record_fields.specs.Refused.{NumberAndRow}
 use Rattle.record_fields.specs.Fields.{size_of}
 use Rattle.record_fields.specs.Refusals.{refusal}
 use Rattle.record_fields.specs.Meaning.{table_of, layouts_of, relaid}
@@ -17,11 +17,11 @@ use Rattle.record.specs.Calls.{SetsHold}
 use Rattle.record_arrays.specs.Sides.{is_side, side_of}
 use Rattle.record_arrays.specs.Rows.{row_byte}
 use Rattle.record_arrays.specs.Shown.{shown_order, shown_count}
-use Rattle.calls_show.specs.declared.answers.Counted.{Counted}
+use Rattle.calls_show.specs.Answers.{Counted}
 use Rattle.calls_show.specs.Calls.{Counts}
-use Rattle.calls_turns.specs.declared.answers.Freed.{Freed}
+use Rattle.calls_turns.specs.Answers.{Freed}
 use Rattle.calls_turns.specs.Calls.{Frees}
-use Rattle.calls_take_in.specs.declared.answers.TakenIn.{TakenIn}
+use Rattle.calls_take_in.specs.Answers.{TakenIn}
 use Rattle.calls_take_in.specs.Calls.{TakesIn}
 
 -- ---- which orders are taken in
@@ -120,6 +120,6 @@ pub record TakeIn : Type 0 where
       (answer : TakenIn) (out' : List ℕ) → TakesIn s side xs out answer out' →
       AcceptedAs s (shown_count s) (layout (layouts_of s) (side_of side)) answer out'
   -- "holds play no part": with another hold the answer is the same, and what is in the buffer.
-  pub hold_no_part : (s : List ℕ) (letter : ℕ) (set : Refusal) (s' : List ℕ) → SetsHold s letter set s' → (side : ℕ) (xs out : List ℕ) →
+  pub hold_no_part : (s : List ℕ) (letter : ℕ) (set : NumberAndRow) (s' : List ℕ) → SetsHold s letter set s' → (side : ℕ) (xs out : List ℕ) →
       (answer answer₂ : TakenIn) (out' out₂ : List ℕ) → TakesIn s side xs out answer out' → TakesIn s' side xs out answer₂ out₂ →
       (answer₂ ≡ answer) × (out₂ ≡ out')

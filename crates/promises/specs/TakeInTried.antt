@@ -3,7 +3,7 @@ use Rattle.std.specs.Prelude.{ℕ, List, [], ◌∷◌}
 use Rattle.tanglegram.specs.declared.side.Side.TheVariants.{Left as left}
 use Rattle.tanglegram.specs.Examples.{case2, root_pinned}
 use Rattle.record_fields.specs.Refused.{refused}
-use Rattle.calls_take_in.specs.declared.answers.TakenIn.{TakenIn}
+use Rattle.calls_take_in.specs.Answers.{TakenIn}
 use Rattle.promises.specs.TakeIn.{NumberTold, Numbered, Answered}
 use Rattle.promises.specs.Cases.{record_of}
 

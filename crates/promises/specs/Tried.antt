@@ -7,9 +7,9 @@ use Rattle.record_fields.specs.Meaning.{relaid}
 use Rattle.record_fields.specs.Refused.{refused}
 use Rattle.record_fields.specs.Told.{SaysRow}
 use Rattle.record_arrays.specs.Shown.{shown_count}
-use Rattle.calls_show.specs.declared.answers.InThousandths.TheVariants as in_thousandths
+use Rattle.calls_show.specs.InThousandths as in_thousandths
 use Rattle.calls_show.specs.Calls.{TellsThousandths}
-use Rattle.calls_turns.specs.declared.answers.Ran.{Ran}
+use Rattle.calls_turns.specs.Answers.{Ran}
 use Rattle.calls_hands.specs.Refusals.{hand}
 use Rattle.calls_hands.specs.Calls.{Hands}
 use Rattle.calls_better.specs.Refusals.{better_refusal}

@@ -9,13 +9,12 @@ use borrow.Author.Tests.{lt-ltb, le-ltb, eq-eqb, eqb-true, ltb-false}
 use lib.Dec.{eqb, ltb}
 use lib.ListN.{length, set, length-append}
 use lib.Seq.{sets}
-use Rattle.record_fields.specs.declared.refusal.Refusal.{Refusal}
 use Rattle.record_fields.specs.Letters.{letter_t, letter_g, letter_p}
 use Rattle.record_fields.specs.Fields.{version_at, hold_at, size_at}
 use Rattle.record_fields.specs.Fields.{split, right_at, links_at, left_layout_at, right_layout_at, length_of, Parts, given, opening, packed}
 use Rattle.record_fields.specs.Refusals.{◌when◌else◌, is_hold, no_size, contents_refusal}
 use Rattle.record_fields.specs.Told.{told_in, ToldContents, tells_row}
-use Rattle.record_fields.specs.Refused.{refused}
+use Rattle.record_fields.specs.Refused.{NumberAndRow, refused}
 use Rattle.record_fields.proofs.Told.{Alone, differs, told-alone, told_none, alone_when, alone_0, each_else}
 use Rattle.record_fields.proofs.Heading.{sized, unsized, none_first, not_no}
 use Rattle.work_trees.proofs.Stores.{sets-append}
@@ -163,23 +162,23 @@ module _ (P : Parts) (out : List ℕ) where
       (each_else Q (contents_refusal P) (λ t. refl)
       (none (14 when ltb (length out) (length_of P.size) else 0) (alone_when (ltb (length out) (length_of P.size)) 14 refl alone_0)))
 
-  pack-refused : {k : ℕ} {answer : Refusal} → k ≡ pack_refusal P out → k ≢ 0 → answer ≡ told_in P k → Packs P out answer out
+  pack-refused : {k : ℕ} {answer : NumberAndRow} → k ≡ pack_refusal P out → k ≢ 0 → answer ≡ told_in P k → Packs P out answer out
   pack-refused {k} e h r = record { answers = r ∙ ap (told_in P) e; afterwards = rw (← e) (lent-refused k (packed P) out h) }
 
   -- by the content
-  pub pack_contents : {answer : Refusal} → parts_shape_refusal P ≡ 0 → ToldContents P answer → answer.number ≢ 0 → Packs P out answer out
+  pub pack_contents : {answer : NumberAndRow} → parts_shape_refusal P ≡ 0 → ToldContents P answer → answer.number ≢ 0 → Packs P out answer out
   pack_contents s t h =
       let some : contents_refusal P ≢ 0 = λ z. h (ap (λ a. a.number) t.told ∙ z) in
       pack-refused (packing_contents s some) some t.told
 
   -- a refusal without a row; the shape's is one
-  pub pack-alone : {k : ℕ} {answer : Refusal} → k ≡ pack_refusal P out → k ≢ 0 → Alone k → answer ≡ refused k → Packs P out answer out
+  pub pack-alone : {k : ℕ} {answer : NumberAndRow} → k ≡ pack_refusal P out → k ≢ 0 → Alone k → answer ≡ refused k → Packs P out answer out
   pack-alone e h a r = pack-refused e h (r ∙ told-alone P a)
 
-  pub pack_shape : {k : ℕ} {answer : Refusal} → k ≡ parts_shape_refusal P → k ≢ 0 → answer ≡ refused k → Packs P out answer out
+  pub pack_shape : {k : ℕ} {answer : NumberAndRow} → k ≡ parts_shape_refusal P → k ≢ 0 → answer ≡ refused k → Packs P out answer out
   pack_shape e h = pack-alone (e ∙ packing_shape (λ z. h (e ∙ z))) h (subst Alone (sym e) (parts_shape_alone P))
 
-  pub pack-accepted : {answer : Refusal} {out' : List ℕ} → 0 ≡ pack_refusal P out → answer ≡ refused 0 → out' ≡ sets out 0 (packed P) →
+  pub pack-accepted : {answer : NumberAndRow} {out' : List ℕ} → 0 ≡ pack_refusal P out → answer ≡ refused 0 → out' ≡ sets out 0 (packed P) →
       Packs P out answer out'
   pack-accepted e r w =
       let z = packing_good (sym e) in

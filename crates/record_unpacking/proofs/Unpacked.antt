@@ -8,17 +8,16 @@ use borrow.Author.Tests.{ne_eqb, le-ltb, ltb-false}
 use lib.Dec.{ltb}
 use lib.ListN.{length}
 use lib.Seq.{sets}
-use Rattle.record_fields.specs.declared.refusal.Refusal.{Refusal}
 use Rattle.record_fields.specs.Fields.{hold_of, size_of, right_at, links_at, left_layout_at, right_layout_at, Parts, parts, parts_of}
 use Rattle.record_fields.specs.Refusals.{refusal}
-use Rattle.record_fields.specs.Refused.{refused, lent}
+use Rattle.record_fields.specs.Refused.{NumberAndRow, refused, lent}
 use Rattle.record_fields.specs.Told.{told_of, OwnRow}
 use Rattle.record_fields.proofs.Heading.{none_first}
 use Rattle.record_fields.proofs.Acceptance.{else_first, else_second, none_both, accepted-sized}
 use Rattle.record_fields.proofs.Refused.{lent-refused, lent-accepted}
 use Rattle.record_fields.proofs.Told.{Alone, told_none, alone_when, alone_0, own_then}
 use Rattle.record_fields.proofs.Stores.{sets_front, length-numbers, length-bytes}
-use Rattle.record_unpacking.specs.declared.unpacking.Unpacked.{Unpacked}
+use Rattle.record_unpacking.specs.Answers.{Unpacked}
 use Rattle.record_unpacking.specs.Refusals.{room_refusal, unpack_refusal}
 use Rattle.record_unpacking.specs.Calls.{unpacked_none, Unpacks}
 
@@ -107,7 +106,7 @@ module _ (s left right links left_layout right_layout : List ℕ) where
 
   module _ (a : refusal s ≡ 0)
       (r : room_refusal (size_of s) (length left) (length right) (length links) (length left_layout) (length right_layout) ≡ 0) where
-    pub unpack-accepted : {n h : ℕ} {none : Refusal} {left' right' links' left-layout' right-layout' : List ℕ} → n ≡ size_of s →
+    pub unpack-accepted : {n h : ℕ} {none : NumberAndRow} {left' right' links' left-layout' right-layout' : List ℕ} → n ≡ size_of s →
         none ≡ refused 0 → h ≡ hold_of s →
         (left' ≡ sets left 0 (parts_of s n).left_rows) ×
         ((right' ≡ sets right 0 (parts_of s n).right_rows) ×

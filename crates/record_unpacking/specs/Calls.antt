@@ -1,14 +1,13 @@
 -- What unpacking answers, and what the five buffers lent to it are afterwards, for every input.
 use Rattle.std.specs.Prelude.{ℕ, ◌≡◌, List}
-use Rattle.record_fields.specs.declared.refusal.Refusal.{Refusal}
 use Rattle.record_fields.specs.Fields.{hold_of, size_of, parts}
-use Rattle.record_fields.specs.Refused.{lent, or_zero}
+use Rattle.record_fields.specs.Refused.{NumberAndRow, lent, or_zero}
 use Rattle.record_fields.specs.Told.{told_of}
-use Rattle.record_unpacking.specs.declared.unpacking.Unpacked.{Unpacked}
+use Rattle.record_unpacking.specs.Answers.{Unpacked}
 use Rattle.record_unpacking.specs.Refusals.{unpack_refusal}
 
 -- What it answers if refused.
-abbrev pub unpacked_none : Refusal → Unpacked
+abbrev pub unpacked_none : NumberAndRow → Unpacked
 unpacked_none r = record { refusal = r; hold = 0; n = 0 }
 
 pub record Unpacks (s left right links left_layout right_layout : List ℕ) (answer : Unpacked)

@@ -1,17 +1,17 @@
 -- The answers for C tell their rows, since they carry the refusals that the calls themselves tell.
 use Prim.Native.Nat.{ℕ}
 use mathlib.Core.Path.{refl, sym, ap, ◌∙◌, subst}
-use Rattle.record_fields.specs.declared.refusal.Refusal.{Refusal}
+use Rattle.record_fields.specs.Refused.{NumberAndRow}
 use Rattle.record_fields.specs.Fields.{Parts, parts}
 use Rattle.record_fields.specs.Told.{SaysRow}
 use Rattle.record_fields.proofs.Told.{refusal-own, set-hold-own}
 use Rattle.record_fields.proofs.SaysRow.{told_row, tells-row_in}
 use Rattle.record_unpacking.proofs.Unpacked.{unpack-own}
 use Rattle.record_packing.proofs.Packed.{pack-own}
-use Rattle.calls_show.specs.declared.answers.SquaredEntanglement.{SquaredEntanglement}
-use Rattle.calls_show.specs.declared.answers.SquaredEntanglement.TheVariants.{Ratio, NoRatio, Refused}
-use Rattle.calls_show.specs.declared.answers.InThousandths.{InThousandths}
-use Rattle.calls_show.specs.declared.answers.InThousandths.TheVariants as in_thousandths
+use Rattle.calls_show.specs.Answers.{SquaredEntanglement}
+use Rattle.calls_show.specs.Answers.{Ratio, NoRatio, Refused}
+use Rattle.calls_show.specs.InThousandths.{InThousandths}
+use Rattle.calls_show.specs.InThousandths as in_thousandths
 use Rattle.calls_show.specs.Calls.{squared_refusal, thousandths_refusal}
 use Rattle.calls_show.proofs.Outcomes.{order-own, squared-told, thousandths-told}
 use Rattle.calls_turns.proofs.Turns.{free_own, run-own}
@@ -31,7 +31,7 @@ in_form : {P : Parts} {A B : Type 0} {call : A → Type 0} {form : A → B} {ans
 in_form {P} number row says g = subst (λ x. SaysRow P (number x) (row x)) (sym g.answers) (says g.given g.called)
 
 -- one that is the refusal alone
-alone : {P : Parts} {call : Refusal → Type 0} {answer : TangleRefusal} → ((a : Refusal) → call a → SaysRow P a.number a.row) →
+alone : {P : Parts} {call : NumberAndRow → Type 0} {answer : TangleRefusal} → ((a : NumberAndRow) → call a → SaysRow P a.number a.row) →
     Gives call refusal_for_c answer → SaysRow P answer.refusal answer.row
 alone says g = in_form (λ x. x.refusal) (λ x. x.row) says g
 

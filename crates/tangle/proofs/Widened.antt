@@ -8,7 +8,7 @@ use native.Mathlib.Omega.{arith}
 use borrow.Author.Tests.{ne_eqb, lt-ltb, ltb-true, ltb-false}
 use lib.Dec.{ltb}
 use lib.IntN.{ℤ}
-use Rattle.record_fields.specs.declared.refusal.Refusal.{Refusal}
+use Rattle.record_fields.specs.Refused.{NumberAndRow}
 use Rattle.record_fields.specs.Fields.{Parts, given, size_of, packed}
 use Rattle.record_fields.specs.Refusals.{is_hold, no_size, refusal, set_hold_refusal}
 use Rattle.record.specs.Calls.{SetsHold}
@@ -22,19 +22,19 @@ use Rattle.record_arrays.specs.Sides.{is_side}
 use Rattle.record_arrays.specs.Rows.{no_row}
 use Rattle.calls_show.specs.Calls.{Orders}
 use Rattle.calls_show.proofs.Outcomes.{ordering_13}
-use Rattle.calls_turns.specs.declared.answers.Freed.{Freed}
+use Rattle.calls_turns.specs.Answers.{Freed}
 use Rattle.calls_turns.specs.Calls.{Frees}
 use Rattle.calls_turns.proofs.Turns.{freeing_13}
 use Rattle.calls_pins.specs.Refusals.{pin_refusal}
 use Rattle.calls_pins.specs.Calls.{Pins}
 use Rattle.calls_pins.proofs.Pinned.{pinning_13, pinning_record, pinning_15}
-use Rattle.calls_better.specs.declared.answers.Compared.{Compared}
+use Rattle.calls_better.specs.Answers.{Compared}
 use Rattle.calls_better.specs.Calls.{better_which, Compares, BetterChecks}
 use Rattle.calls_better.proofs.Compared.{comparing_13}
-use Rattle.calls_take_in.specs.declared.answers.TakenIn.{TakenIn}
+use Rattle.calls_take_in.specs.Answers.{TakenIn}
 use Rattle.calls_take_in.specs.Calls.{TakesIn}
 use Rattle.calls_take_in.proofs.Taken.{taking_13}
-use Rattle.calls_newick.specs.declared.answers.NewickWritten.{NewickWritten}
+use Rattle.calls_newick.specs.Answers.{NewickWritten}
 use Rattle.calls_newick.specs.Calls.{NewickWrites}
 use Rattle.calls_newick.proofs.Outcomes.{writing_13}
 use Rattle.calls_merge.specs.Calls.{MergeReads, MergeWrites}
@@ -64,7 +64,7 @@ module _ {side k : ℕ} (w : Narrowed 65536 side k) where
   by_side : (P : ℕ → Type 0) → (is_side side ≡ false → P 0 → P side) → P k → P side
   by_side P alike = widened P w (λ h. alike (no_side side h))
 
-  pub order_wide : {s out out' : List ℕ} {a : Refusal} → Orders s k out a out' → Orders s side out a out'
+  pub order_wide : {s out out' : List ℕ} {a : NumberAndRow} → Orders s k out a out' → Orders s side out a out'
   order_wide {s} {out} {out'} {a} = by_side (λ x. Orders s x out a out') (λ no p.
       let z = ordering_13 s 0 out zero_no_side in
       let e = ordering_13 s side out no in
@@ -76,7 +76,7 @@ module _ {side k : ℕ} (w : Narrowed 65536 side k) where
       let e = freeing_13 s side no in
       record { answers = rw (← e) (rw (← z) at p.answers); afterwards = rw (← e) (rw (← z) at p.afterwards) })
 
-  pin-side_wide : {s s' : List ℕ} {row : ℕ} {pinned : Bool} {a : Refusal} → Pins s k row pinned a s' → Pins s side row pinned a s'
+  pin-side_wide : {s s' : List ℕ} {row : ℕ} {pinned : Bool} {a : NumberAndRow} → Pins s k row pinned a s' → Pins s side row pinned a s'
   pin-side_wide {s} {s'} {row} {pinned} {a} = by_side (λ x. Pins s x row pinned a s') (λ no p.
       let z = pinning_13 s 0 row zero_no_side in
       let e = pinning_13 s side row no in
@@ -89,7 +89,7 @@ module _ {side k : ℕ} (w : Narrowed 65536 side k) where
       let e = comparing_13 s side first second no in
       record { answers = rw (← e) (rw (← z) at p.answers) })
 
-  pub better-check_wide : {s first second : List ℕ} {a : Refusal} →
+  pub better-check_wide : {s first second : List ℕ} {a : NumberAndRow} →
       BetterChecks s k first second a → BetterChecks s side first second a
   better-check_wide {s} {first} {second} {a} = by_side (λ x. BetterChecks s x first second a) (λ no p.
       let z = comparing_13 s 0 first second zero_no_side in
@@ -108,7 +108,7 @@ module _ {side k : ℕ} (w : Narrowed 65536 side k) where
       let e = writing_13 s side out no in
       record { answers = rw e (rw z at p.answers); afterwards = rw e (rw z at p.afterwards) })
 
-  pub merge-write_wide : {s : List ℕ} {out out' : List ℤ} {a : Refusal} → MergeWrites s k out a out' → MergeWrites s side out a out'
+  pub merge-write_wide : {s : List ℕ} {out out' : List ℤ} {a : NumberAndRow} → MergeWrites s k out a out' → MergeWrites s side out a out'
   merge-write_wide {s} {out} {out'} {a} = by_side (λ x. MergeWrites s x out a out') (λ no p.
       let z = merging_13 s 0 out zero_no_side in
       let e = merging_13 s side out no in
@@ -141,7 +141,7 @@ far_row s side row far = go (is_side side) refl (refusal s) refl
         let e = pinning_15 s side row b r (far_no_row (size_of s) row (accepted-sized s r).most far) in
         (sym (pinning_15 s side 0 b r (zero_no_row (size_of s))) ∙ e, λ z. omega (arith, e, z))
 
-pin-row_wide : {s s' : List ℕ} {side row k : ℕ} {pinned : Bool} {a : Refusal} → Narrowed 65536 row k → Pins s side k pinned a s' →
+pin-row_wide : {s s' : List ℕ} {side row k : ℕ} {pinned : Bool} {a : NumberAndRow} → Narrowed 65536 row k → Pins s side k pinned a s' →
     Pins s side row pinned a s'
 pin-row_wide {s} {s'} {side} {row} {k} {pinned} {a} w = widened (λ x. Pins s side x pinned a s') w (λ far p.
     let h = far_row s side row far in
@@ -151,7 +151,7 @@ pin-row_wide {s} {s'} {side} {row} {k} {pinned} {a} w = widened (λ x. Pins s si
       afterwards = rw e ((rw (h.0, e) at p.afterwards));
     })
 
-pub pin_wide : {s s' : List ℕ} {side x row y : ℕ} {pinned : Bool} {a : Refusal} → Narrowed 65536 side x → Narrowed 65536 row y →
+pub pin_wide : {s s' : List ℕ} {side x row y : ℕ} {pinned : Bool} {a : NumberAndRow} → Narrowed 65536 side x → Narrowed 65536 row y →
     Pins s x y pinned a s' → Pins s side row pinned a s'
 pin_wide u v p = pin-side_wide u (pin-row_wide v p)
 
@@ -175,7 +175,7 @@ holding_4 : (s : List ℕ) (letter : ℕ) → is_hold letter ≡ false → 4 ≡
 unfolding set_hold_refusal
 holding_4 s letter h = rw h refl
 
-pub hold_wide : {s s' : List ℕ} {letter k : ℕ} {a : Refusal} → Narrowed 256 letter k → SetsHold s k a s' → SetsHold s letter a s'
+pub hold_wide : {s s' : List ℕ} {letter k : ℕ} {a : NumberAndRow} → Narrowed 256 letter k → SetsHold s k a s' → SetsHold s letter a s'
 hold_wide {s} {s'} {letter} {k} {a} w = widened (λ x. SetsHold s x a s') w (λ h p.
     let z = holding_4 s 0 zero_no_letter in
     let e = holding_4 s letter (no_letter letter h) in
@@ -191,7 +191,7 @@ zero_no_size : no_size 0 ≡ true
 unfolding no_size
 zero_no_size = refl
 
-pub merge-read_wide : {n k : ℕ} {table : List ℤ} {out out' : List ℕ} {a : Refusal} → Narrowed 65536 n k → MergeReads k table out a out' →
+pub merge-read_wide : {n k : ℕ} {table : List ℤ} {out out' : List ℕ} {a : NumberAndRow} → Narrowed 65536 n k → MergeReads k table out a out' →
     MergeReads n table out a out'
 merge-read_wide {n} {k} {table} {out} {out'} {a} w = widened (λ x. MergeReads x table out a out') w (λ h p.
     let z = reading_5 0 table out zero_no_size in
@@ -199,7 +199,7 @@ merge-read_wide {n} {k} {table} {out} {out'} {a} w = widened (λ x. MergeReads x
     record { answers = rw (← e) (rw (← z) at p.answers); afterwards = rw (← e) (rw (← z) at p.afterwards) })
 
 -- parts that are refused alike, with a number that has no row
-packs-alike : {P Q : Parts} {out out' : List ℕ} {a : Refusal} {c : ℕ} → c ≢ 0 → Alone c → c ≡ pack_refusal P out → c ≡ pack_refusal Q out →
+packs-alike : {P Q : Parts} {out out' : List ℕ} {a : NumberAndRow} {c : ℕ} → c ≢ 0 → Alone c → c ≡ pack_refusal P out → c ≡ pack_refusal Q out →
     Packs P out a out' → Packs Q out a out'
 packs-alike {P} {Q} {out} {c = c} some alone z e p = record {
   answers = p.answers ∙ ap (told_in P) (sym z) ∙ sym (told-alone P alone) ∙ told-alone Q alone ∙ ap (told_in Q) e;
@@ -219,7 +219,7 @@ module _ (left right links left_layout right_layout out : List ℕ) where
   unfolding pack_refusal shape_refusal
   pack_5 hold n h m = rw (h, m) refl
 
-  module _ {out' : List ℕ} {a : Refusal} where
+  module _ {out' : List ℕ} {a : NumberAndRow} where
     letter_wide : {hold n k : ℕ} → Narrowed 256 hold k → Packs (parts_with k n) out a out' → Packs (parts_with hold n) out a out'
     letter_wide {hold} {n} w =
         widened (λ x. Packs (parts_with x n) out a out') w

@@ -2,30 +2,30 @@
 -- the number that C has. Sides, rows, letters and n are the numbers that C hands over, of 32 bits.
 use Rattle.std.specs.Prelude.{ℕ, ◌≡◌, false, not, List, eqb, ℤ, pos}
 use Rattle.std.specs.Float.{fin}
-use Rattle.record_fields.specs.declared.refusal.Refusal.{Refusal}
+use Rattle.record_fields.specs.Refused.{NumberAndRow}
 use Rattle.record_fields.specs.Fields.{Parts}
 use Rattle.record.specs.Calls.{Checks, SetsHold}
-use Rattle.record_unpacking.specs.declared.unpacking.Unpacked.{Unpacked}
+use Rattle.record_unpacking.specs.Answers.{Unpacked}
 use Rattle.record_unpacking.specs.Calls.{Unpacks}
 use Rattle.record_packing.specs.Calls.{Packs}
-use Rattle.calls_show.specs.declared.answers.Counted.{Counted}
-use Rattle.calls_show.specs.declared.answers.SquaredEntanglement.{SquaredEntanglement}
-use Rattle.calls_show.specs.declared.answers.SquaredEntanglement.TheVariants.{Ratio, NoRatio, Refused}
-use Rattle.calls_show.specs.declared.answers.InThousandths.{InThousandths}
-use Rattle.calls_show.specs.declared.answers.InThousandths.TheVariants as in_thousandths
+use Rattle.calls_show.specs.Answers.{Counted}
+use Rattle.calls_show.specs.Answers.{SquaredEntanglement}
+use Rattle.calls_show.specs.Answers.{Ratio, NoRatio, Refused}
+use Rattle.calls_show.specs.InThousandths.{InThousandths}
+use Rattle.calls_show.specs.InThousandths as in_thousandths
 use Rattle.calls_show.specs.Calls.{Orders, Counts, SquaredEntangles, TellsThousandths}
-use Rattle.calls_turns.specs.declared.answers.Freed.{Freed}
-use Rattle.calls_turns.specs.declared.answers.Ran.{Ran}
+use Rattle.calls_turns.specs.Answers.{Freed}
+use Rattle.calls_turns.specs.Answers.{Ran}
 use Rattle.calls_turns.specs.Calls.{Frees, Runs}
 use Rattle.calls_hands.specs.Refusals.{Hand}
 use Rattle.calls_hands.specs.Calls.{Hands}
 use Rattle.calls_pins.specs.Calls.{Pins}
-use Rattle.calls_better.specs.declared.answers.Compared.{Compared}
+use Rattle.calls_better.specs.Answers.{Compared}
 use Rattle.calls_better.specs.Calls.{Compares, BetterChecks}
-use Rattle.calls_take_in.specs.declared.answers.TakenIn.{TakenIn}
+use Rattle.calls_take_in.specs.Answers.{TakenIn}
 use Rattle.calls_take_in.specs.Calls.{TakesIn}
-use Rattle.calls_newick.specs.declared.answers.NewickRead.{NewickRead}
-use Rattle.calls_newick.specs.declared.answers.NewickWritten.{NewickWritten}
+use Rattle.calls_newick.specs.Answers.{NewickRead}
+use Rattle.calls_newick.specs.Answers.{NewickWritten}
 use Rattle.calls_newick.specs.Calls.{NewickReads, NewickWrites}
 use Rattle.calls_merge.specs.Calls.{MergeReads, MergeWrites}
 use Rattle.tangle.specs.declared.answers.TangleRefusal.{TangleRefusal}
@@ -48,7 +48,7 @@ pub record Gives {A B : Type 0} (call : A → Type 0) (form : A → B) (answer :
 
 -- ---- check, order, hold, pin, hands, better_check, pack, merge_read, merge_write: the refusal and its row alone
 
-abbrev pub refusal_for_c : Refusal → TangleRefusal
+abbrev pub refusal_for_c : NumberAndRow → TangleRefusal
 refusal_for_c a = record { refusal = a.number; row = a.row }
 
 abbrev pub ChecksForC : List ℕ → TangleRefusal → Type 0

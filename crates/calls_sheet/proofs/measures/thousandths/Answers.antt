@@ -1,7 +1,7 @@
 -- `thousandths`: the three cases of what the call answers.
 use Rattle.std.proofs.Common.{List, ap, sym, ℕ, ◌∙◌, ◌≡◌}
 use Rattle.std.proofs.Math.Option.{get_or}
-use Rattle.calls_show.specs.declared.answers.InThousandths.{InThousandths}
+use Rattle.calls_show.specs.InThousandths.{InThousandths}
 use Rattle.calls_show.specs.Calls.{TellsThousandths, thousandths_in}
 use Rattle.calls_sheet.specs.Sheet.{ThirdNumber}
 
