@@ -2,4 +2,3 @@ pub mod AsItStands
 pub mod Relaying
 pub mod OneRow
 pub mod Apart
-pub mod Held

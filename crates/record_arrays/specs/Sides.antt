@@ -1,21 +1,12 @@
 -- Sides as numbers (`tanglegram`), which sides a hold holds, and where a side's parts stand in a record.
-use Rattle.std.specs.Prelude.{ℕ, ◌≡◌, Bool, ◌||◌, List, eqb}
+use Rattle.std.specs.Prelude.{ℕ}
 use Rattle.tanglegram.specs.declared.side.Side.{Side}
 use Rattle.tanglegram.specs.declared.side.Side.TheVariants.{Left as left, Right as right}
-use Rattle.record_fields.specs.Fields.{right_at, left_layout_at, right_layout_at, Sized}
-use Rattle.record_fields.specs.Refusals.{refusal}
+use Rattle.record_fields.specs.Fields.{right_at, left_layout_at, right_layout_at}
+pub use Rattle.record_fields.specs.Refusals.{RecordOver}
+unfoldable pub use Rattle.record_fields.specs.Holds.{holds}
 unfoldable pub use Rattle.tanglegram.specs.Sides.{is_side}
 pub use Rattle.tanglegram.specs.Sides.{side_of}
-
--- `L` holds the left, `R` the right, `B` both.
-unfoldable pub holds : ℕ → Side → Bool
-holds hold left = eqb hold 76 || eqb hold 66
-holds hold right = eqb hold 82 || eqb hold 66
-
--- An accepted record over n leaves.
-pub record RecordOver (s : List ℕ) (n : ℕ) : Type 0 where
-  pub accepted : refusal s ≡ 0
-  pub sized : Sized s n
 
 -- Where a side's rows and its layout begin.
 abbrev pub rows_at : ℕ → Side → ℕ

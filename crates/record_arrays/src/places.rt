@@ -1,27 +1,28 @@
 // Where a side's parts stand in a record over n leaves.
 ghost use Rattle.std.specs.Prelude.{◌≡◌, ◌≤◌};
-ghost use Rattle.record_arrays.specs.Sides.{layout_at, rows_at, side_of};
+ghost use Rattle.record_arrays.specs.Sides.{layout_at, rows_at};
 
 use record_fields::fields::{LEFT_ROWS_AT, left_layout_at, right_layout_at, right_rows_at};
+use tanglegram::Side;
 
 // Where a side's rows begin.
-pub fn rows_at(n: u16, side: u16) -> usize
+pub fn rows_at(n: u16, side: Side) -> usize
     requires { 1 ≤ n }
-    ensures { result ≡ rows_at n (side_of side) }
+    ensures { result ≡ rows_at n side }
 {
-    if side == 1 {
-        return LEFT_ROWS_AT;
+    match side {
+        Side::Left => LEFT_ROWS_AT,
+        Side::Right => right_rows_at(n),
     }
-    right_rows_at(n)
 }
 
 // Where a side's layout begins.
-pub fn layout_at(n: u16, side: u16) -> usize
+pub fn layout_at(n: u16, side: Side) -> usize
     requires { 1 ≤ n }
-    ensures { result ≡ layout_at n (side_of side) }
+    ensures { result ≡ layout_at n side }
 {
-    if side == 1 {
-        return left_layout_at(n);
+    match side {
+        Side::Left => left_layout_at(n),
+        Side::Right => right_layout_at(n),
     }
-    right_layout_at(n)
 }

@@ -6,12 +6,13 @@ ghost use Rattle.work_linked_trees.specs.Memory.{layouts_from};
 
 use crate::places::layout_at;
 use record_fields::copying::bytes_in;
+use tanglegram::Side;
 
 // Writes both layouts into an accepted record over n leaves.
 pub fn put_back(s: &mut [u8], n: u16, leftlay: &[u8], rightlay: &[u8])
     requires { RecordOver s.old n × (length leftlay.now + 1 ≡ n) × (length rightlay.now + 1 ≡ n) }
     ensures { s.new ≡ relaid s.old (layouts_from leftlay.now rightlay.now) }
 {
-    bytes_in(leftlay, s, layout_at(n, 1));
-    bytes_in(rightlay, s, layout_at(n, 2));
+    bytes_in(leftlay, s, layout_at(n, Side::Left));
+    bytes_in(rightlay, s, layout_at(n, Side::Right));
 }

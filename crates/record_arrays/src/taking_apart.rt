@@ -3,7 +3,7 @@
 ghost use Rattle.std.specs.Prelude.{◌++◌, ◌≡◌, ◌+◌, drop, length};
 ghost use Rattle.record_fields.specs.Meaning.{layouts_of, table_of};
 ghost use Rattle.record_arrays.specs.Apart.{OrdersTaken, TreesTaken};
-ghost use Rattle.record_arrays.specs.Sides.{RecordOver, side_of};
+ghost use Rattle.record_arrays.specs.Sides.{RecordOver};
 ghost use Rattle.tanglegram.specs.Table.{layout, order_of};
 ghost use Rattle.work_linked_trees.specs.Memory.{layouts_from};
 ghost use Rattle.work_trees.specs.Exchange.{LaidOut};
@@ -11,20 +11,21 @@ ghost use Rattle.work_trees.specs.Exchange.{LaidOut};
 use crate::places::{layout_at, rows_at};
 use record_fields::copying::bytes_in;
 use record_fields::fields::links_at;
+use tanglegram::Side;
 
 // Fills a row array with a side's rows, the layout applied that is lent.
-fn lay_out(s: &[u8], n: u16, side: u16, lay: &[u8], rows: &mut [u16; 1023])
+fn lay_out(s: &[u8], n: u16, side: Side, lay: &[u8], rows: &mut [u16; 1023])
     requires { RecordOver s.now n × (length lay.now + 1 ≡ n) × (length rows.old ≡ 1023) }
-    ensures { LaidOut ((table_of s.now).tree (side_of side)) n lay.now rows.new }
+    ensures { LaidOut ((table_of s.now).tree side) n lay.now rows.new }
 {
     record_fields::fill_rows(s, rows_at(n, side), n, rows);
     work_trees::exchange(rows, lay);
 }
 
 // Fills a row array with a side's rows, its own layout applied.
-pub fn fill_side(s: &[u8], n: u16, side: u16, rows: &mut [u16; 1023])
+pub fn fill_side(s: &[u8], n: u16, side: Side, rows: &mut [u16; 1023])
     requires { RecordOver s.now n × (length rows.old ≡ 1023) }
-    ensures { LaidOut ((table_of s.now).tree (side_of side)) n (layout (layouts_of s.now) (side_of side))
+    ensures { LaidOut ((table_of s.now).tree side) n (layout (layouts_of s.now) side)
         rows.new }
 {
     let from = layout_at(n, side);
@@ -33,9 +34,9 @@ pub fn fill_side(s: &[u8], n: u16, side: u16, rows: &mut [u16; 1023])
 }
 
 // Copies a side's layout.
-pub fn fill_layout(s: &[u8], n: u16, side: u16, lay: &mut [u8])
+pub fn fill_layout(s: &[u8], n: u16, side: Side, lay: &mut [u8])
     requires { RecordOver s.now n × (length lay.old + 1 ≡ n) }
-    ensures { lay.new ≡ layout (layouts_of s.now) (side_of side) }
+    ensures { lay.new ≡ layout (layouts_of s.now) side }
 {
     let from = layout_at(n, side);
     let to = from + (n as usize - 1);
@@ -43,10 +44,10 @@ pub fn fill_layout(s: &[u8], n: u16, side: u16, lay: &mut [u8])
 }
 
 // Writes a side's present order to an array's first places.
-pub fn side_order(s: &[u8], n: u16, side: u16, out: &mut [u16; 512])
+pub fn side_order(s: &[u8], n: u16, side: Side, out: &mut [u16; 512])
     requires { RecordOver s.now n × (length out.old ≡ 512) }
     ensures { out.new
-        ≡ order_of (table_of s.now) (layouts_of s.now) (side_of side) ++ drop n out.old }
+        ≡ order_of (table_of s.now) (layouts_of s.now) side ++ drop n out.old }
 {
     let mut rows = [0u16; 1023];
     fill_side(s, n, side, &mut rows);
@@ -67,8 +68,8 @@ pub fn take_orders(
     requires left_len { (length left.old ≡ 512) × (length right.old ≡ 512) × (length links.old ≡ 512) }
     ensures { OrdersTaken s.now n left.new right.new links.new }
 {
-    side_order(s, n, 1, left);
-    side_order(s, n, 2, right);
+    side_order(s, n, Side::Left, left);
+    side_order(s, n, Side::Right, right);
     record_fields::fill_links(s, links_at(n), n, links);
 }
 
@@ -77,8 +78,8 @@ pub fn take_layouts(s: &[u8], n: u16, leftlay: &mut [u8], rightlay: &mut [u8])
     requires { RecordOver s.now n × (length leftlay.old + 1 ≡ n) × (length rightlay.old + 1 ≡ n) }
     ensures { layouts_from leftlay.new rightlay.new ≡ layouts_of s.now }
 {
-    fill_layout(s, n, 1, leftlay);
-    fill_layout(s, n, 2, rightlay);
+    fill_layout(s, n, Side::Left, leftlay);
+    fill_layout(s, n, Side::Right, rightlay);
 }
 
 // Writes both trees, the layouts applied that are lent, and the links.
@@ -96,7 +97,7 @@ pub fn take_trees(
     ensures { TreesTaken s.now n links.new left.new leftlay.now right.new
         rightlay.now }
 {
-    lay_out(s, n, 1, leftlay, left);
-    lay_out(s, n, 2, rightlay, right);
+    lay_out(s, n, Side::Left, leftlay, left);
+    lay_out(s, n, Side::Right, rightlay, right);
     record_fields::fill_links(s, links_at(n), n, links);
 }

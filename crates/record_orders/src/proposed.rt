@@ -2,17 +2,18 @@
 // rows as they are given. What is turned over in the record, pinned or held, plays no part.
 ghost use Rattle.std.specs.Prelude.{◌≡◌, ◌+◌, length};
 ghost use Rattle.record_fields.specs.Meaning.{table_of};
-ghost use Rattle.record_arrays.specs.Sides.{RecordOver, side_of};
+ghost use Rattle.record_arrays.specs.Sides.{RecordOver};
 ghost use Rattle.record_orders.specs.Proposed.{is_order, OrderRead};
 
 use record_arrays::rows_at;
 use record_fields::copying::copied;
+use tanglegram::Side;
 
 // Whether the first n entries of a lent order are an order of a side. If it has as many, `lay` becomes the layout that
 // they show, no row pinned.
-pub fn read_order(s: &[u8], n: u16, side: u16, xs: &[u16], lay: &mut [u8]) -> bool
+pub fn read_order(s: &[u8], n: u16, side: Side, xs: &[u16], lay: &mut [u8]) -> bool
     requires { RecordOver s.now n × (length lay.old + 1 ≡ n) }
-    ensures { OrderRead s.now n (side_of side) xs.now lay.old result lay.new }
+    ensures { OrderRead s.now n side xs.now lay.old result lay.new }
 {
     let k = n as usize;
     if xs.len() < k {
@@ -26,9 +27,9 @@ pub fn read_order(s: &[u8], n: u16, side: u16, xs: &[u16], lay: &mut [u8]) -> bo
 }
 
 // Whether the first n entries of a lent order are an order of a side.
-pub fn is_order(s: &[u8], n: u16, side: u16, xs: &[u16]) -> bool
+pub fn is_order(s: &[u8], n: u16, side: Side, xs: &[u16]) -> bool
     requires { RecordOver s.now n }
-    ensures { result ≡ is_order n ((table_of s.now).tree (side_of side)) xs.now }
+    ensures { result ≡ is_order n ((table_of s.now).tree side) xs.now }
 {
     let m = n as usize - 1;
     let mut lay = [0u8; 512];

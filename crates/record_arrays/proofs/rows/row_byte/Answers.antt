@@ -1,21 +1,20 @@
 -- `row_byte`: what stands at the row's place is its byte (`row_read`).
 use Rattle.std.proofs.Common.{arith, refl}
-use Rattle.record_arrays.specs.Sides.{side_of}
 use Rattle.record_arrays.proofs.AsItStands.{layout-within}
 use Rattle.record_arrays.proofs.OneRow.{row_within, row_read}
 use Rattle.record_arrays.proofs.rows.row_byte.Goals as goal
 
 pub overflow_add-result : goal.overflow_add-result
 overflow_add-result c =
-    let h = layout-within _ _ c.requires.record_over (side_of c.args.side) in
+    let h = layout-within _ _ c.requires.record_over c.args.side in
     omega (arith, c.layout_at.ensures, c.requires.le_row)
 
 pub bounds-s-layout_at : goal.bounds-s-layout_at
 bounds-s-layout_at c =
     let e = c.layout_at.ensures in
-    row_within _ _ c.requires.record_over (side_of c.args.side) c.args.row c.requires.le_row.0 c.requires.le_row.1 e refl
+    row_within _ _ c.requires.record_over c.args.side c.args.row c.requires.le_row.0 c.requires.le_row.1 e refl
 
 pub returns : goal.returns
 returns c =
     let e = c.layout_at.ensures in
-    row_read _ _ c.requires.record_over (side_of c.args.side) c.args.row c.requires.le_row.0 c.requires.le_row.1 e refl
+    row_read _ _ c.requires.record_over c.args.side c.args.row c.requires.le_row.0 c.requires.le_row.1 e refl

@@ -1,23 +1,22 @@
 -- `fill_layout`: the bytes from the layout's place on are the side's layout.
 use Rattle.std.proofs.Common.{arith, ◌∙◌}
-use Rattle.record_arrays.specs.Sides.{side_of}
 use Rattle.record_arrays.proofs.AsItStands.{layout-within, part_layout, length_part}
 use Rattle.record_arrays.proofs.Apart.{sets-whole}
 use Rattle.record_arrays.proofs.taking_apart.fill_layout.Goals as goal
 
 pub overflow_add-to : goal.overflow_add-to
 overflow_add-to c =
-    let h = layout-within _ _ c.requires.0 (side_of c.args.side) in
+    let h = layout-within _ _ c.requires.0 c.args.side in
     omega (arith, c.layout_at-from.ensures)
 
 pub slice_bounds-bytes_in-end : goal.slice_bounds-bytes_in-end
 slice_bounds-bytes_in-end c =
-    let h = layout-within _ _ c.requires.0 (side_of c.args.side) in
+    let h = layout-within _ _ c.requires.0 c.args.side in
     omega (arith, c.layout_at-from.ensures)
 
 pub returns : goal.returns
 returns c =
     let g = c.requires.0 in
-    let side = side_of c.args.side in
+    let side = c.args.side in
     let e = part_layout _ _ g side c.layout_at-from.ensures in
     c.bytes_in.ensures ∙ rw e (sets-whole _ _ (omega (arith, length_part _ _ g side, c.requires.1)))

@@ -1,6 +1,5 @@
 -- `side_order`: the leaves of the side's row array stand in the order that its layout gives.
 use Rattle.std.proofs.Common.{refl, ◌∙◌}
-use Rattle.record_arrays.specs.Sides.{side_of}
 use Rattle.record_arrays.proofs.Apart.{order-shown}
 use Rattle.record_arrays.proofs.taking_apart.side_order.Goals as goal
 
@@ -15,4 +14,4 @@ leaf_order-requires c = record {
 
 pub returns : goal.returns
 returns c =
-    c.leaf_order.ensures ∙ order-shown _ _ c.requires.0 (side_of c.args.side) _ _ c.fill_side.ensures
+    c.leaf_order.ensures ∙ order-shown _ _ c.requires.0 c.args.side _ _ c.fill_side.ensures

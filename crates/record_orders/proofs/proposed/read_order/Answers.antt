@@ -1,13 +1,12 @@
 -- `read_order`: a lent order that is long enough is copied to an array, and matched there with the side's rows.
 use Rattle.std.proofs.Common.{ap, arith, length, length-take-le, refl, sym, ◌∙◌}
 use lib.Seq.{length-sets}
-use Rattle.record_arrays.specs.Sides.{side_of}
 use Rattle.record_arrays.proofs.AsItStands.{rows-within, filled-good, filled-size, filled-tree}
 use Rattle.record_orders.proofs.Proposals.{read_short, matched}
 use Rattle.record_orders.proofs.proposed.read_order.Goals as goal
 
 pub returns-then-xs-k : goal.returns-then-xs-k
-returns-then-xs-k c = read_short _ _ c.requires.0 (side_of c.args.side) _ _ c.if-xs-k.true
+returns-then-xs-k c = read_short _ _ c.requires.0 c.args.side _ _ c.if-xs-k.true
 
 pub slice_bounds-copied-end : goal.slice_bounds-copied-end
 slice_bounds-copied-end c = sym (length-take-le _ _ (omega arith))
@@ -19,12 +18,12 @@ copied-requires c =
 pub fill_rows-requires : goal.fill_rows-requires
 fill_rows-requires c =
     let g = c.requires.0 in
-    (g.sized.some, g.sized.most, rw c.rows_at.ensures (rows-within _ _ g (side_of c.args.side)), refl)
+    (g.sized.some, g.sized.most, rw c.rows_at.ensures (rows-within _ _ g c.args.side), refl)
 
 pub match_layout-requires : goal.match_layout-requires
 match_layout-requires c =
     let g = c.requires.0 in
-    let side = side_of c.args.side in
+    let side = c.args.side in
     let good = filled-good _ _ g side _ _ refl _ c.rows_at.ensures c.fill_rows.ensures in
     let size = filled-size _ _ g side _ _ refl _ c.rows_at.ensures c.fill_rows.ensures in
     record {
@@ -36,7 +35,7 @@ match_layout-requires c =
 pub returns : goal.returns
 returns c =
     let g = c.requires.0 in
-    let side = side_of c.args.side in
+    let side = c.args.side in
     let size = filled-size _ _ g side _ _ refl _ c.rows_at.ensures c.fill_rows.ensures in
     let tree = filled-tree _ _ g side _ _ refl _ c.rows_at.ensures c.fill_rows.ensures in
     matched _ _ g side _ _ _ refl c.if-xs-k.false c.copied.ensures _ _ _ _ size tree c.match_layout.ensures

@@ -4,11 +4,8 @@ use Rattle.record_turns.proofs.Apart.{layouts-freed}
 use Rattle.record_turns.proofs.working.free_with.Goals as goal
 
 pub free_side-requires : goal.free_side-requires
-free_side-requires c = record {
-  in_memory = memory-now c.take_trees.ensures.memory;
-  side_value = c.requires.record_over.1;
-}
+free_side-requires c = memory-now c.take_trees.ensures.memory
 
 pub returns : goal.returns
 returns c =
-    layouts-freed c.requires.record_over.0 c.take_trees.ensures c.free_side.ensures
+    layouts-freed c.requires.record_over c.take_trees.ensures c.free_side.ensures
