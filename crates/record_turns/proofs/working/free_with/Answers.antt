@@ -4,7 +4,7 @@ use Rattle.record_turns.proofs.Apart.{layouts-freed}
 use Rattle.record_turns.proofs.working.free_with.Goals as goal
 
 pub free_side-requires : goal.free_side-requires
-free_side-requires c = memory-now c.take_trees.ensures.memory
+free_side-requires c = record { in_memory = memory-now c.take_trees.ensures.memory }
 
 pub returns : goal.returns
 returns c =
