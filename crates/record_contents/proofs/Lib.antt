@@ -1,4 +1,3 @@
 pub mod Marks
-pub mod RowsAt
 pub mod Layouts
 pub mod Found

@@ -4,5 +4,4 @@
 mod links;
 mod testing;
 
-pub use links::one_to_one_in;
-pub use testing::{bad_row_in, contents, is_layout};
+pub use testing::{contents, test_parts};

@@ -1,52 +1,59 @@
-// The tests of a record's contents, behind the refusals 7 to 10, each on bytes or on numbers.
-ghost use Rattle.std.specs.Prelude.{◌≡◌, ◌+◌, ◌-◌, ◌*◌, ◌≤◌, length};
-ghost use Rattle.work_trees.specs.Rows.{upper, lower};
-ghost use Rattle.work_tree_rule.specs.Rule.{bad_row, row_found};
-ghost use Rattle.record_fields.specs.Fields.{most_leaves, numbers, parts_of, Sized};
+// The tests of a record's contents, behind the refusals 7 to 10: on parts, wherever they stand, and on a record's bytes.
+ghost use Rattle.std.specs.Prelude.{◌≡◌, ℕ, ◌-◌, ◌*◌, ◌≤◌, length};
+ghost use Rattle.record_fields.specs.Fields.{given, most_leaves, parts_of, Sized};
 ghost use Rattle.record_fields.specs.Refusals.{is_layout};
 ghost use Rattle.record_fields.specs.Refused.{told};
 ghost use Rattle.record_fields.specs.Told.{ToldContents};
 
-use crate::links::one_to_one_at;
-use record_fields::copying::number;
+use crate::links::one_to_one;
 use record_fields::fields::{
     LEFT_ROWS_AT, left_layout_at, links_at, right_layout_at, right_rows_at,
 };
+use record_fields::numbers::NumbersAt;
 use record_fields::refusal::Refusal;
-use work_tree_rule::{Used, bad_row};
-
-// The lowest of the n-1 rows from place `at` on that breaks the tree rule, if one does.
-fn bad_row_at(s: &[u8], at: usize, n: u16) -> Option<u16>
-    requires { (1 ≤ n) × (n ≤ most_leaves) × (at + 4 * (n - 1) ≤ length s.now) }
-    ensures { result ≡
-        row_found (bad_row
-        n
-        (upper (numbers s.now at (2 * (n - 1))))
-        (lower (numbers s.now at (2 * (n - 1))))) }
-{
-    let mut used = Used::new();
-    for i in 1..n {
-        let row = at + 4 * (i as usize - 1);
-        if used.row_breaks(number(s, row), number(s, row + 2), n as usize + i as usize) {
-            return Some(i);
-        }
-    }
-    None
-}
-
-// The lowest of the n-1 rows of a list that breaks the tree rule, if one does.
-pub fn bad_row_in(list: &[u16], n: u16) -> Option<u16>
-    requires { (1 ≤ n) × (n ≤ most_leaves) × (length list.now ≡ 2 * (n - 1)) }
-    ensures { result ≡ row_found (bad_row n (upper list.now) (lower list.now)) }
-{
-    bad_row(&list, n as usize)
-}
+use work_tree_rule::{Numbers, bad_row};
 
 // Whether no byte is above 3.
-pub fn is_layout(bytes: &[u8]) -> bool
+fn is_layout(bytes: &[u8]) -> bool
     ensures { result ≡ is_layout bytes.now }
 {
     bytes.iter().all(|x| *x <= 3)
+}
+
+// Tests parts over n leaves: the rows, flat, upper then lower, the links and the layouts. What they say of the hold plays
+// no part.
+pub fn test_parts<T: Numbers>(
+    n: u16,
+    left: &T,
+    right: &T,
+    links: &T,
+    leftlayout: &[u8],
+    rightlayout: &[u8],
+) -> Result<(), Refusal>
+    requires sized { (1 ≤ n) × (n ≤ most_leaves) }
+    requires rows { (length (T.list left.now) ≡ 2 * (n - 1)) × (length (T.list right.now) ≡ 2 * (n - 1)) }
+    requires links { length (T.list links.now) ≡ n }
+    ensures { (h : ℕ) →
+        ToldContents
+        (given h n (T.list left.now) (T.list right.now) (T.list links.now) leftlayout.now rightlayout.now)
+        (told result) }
+{
+    if let Some(row) = bad_row(left, n as usize) {
+        return Err(Refusal::LeftRow(row));
+    }
+    if let Some(row) = bad_row(right, n as usize) {
+        return Err(Refusal::RightRow(row));
+    }
+    if !one_to_one(links, n) {
+        return Err(Refusal::Links);
+    }
+    if !is_layout(leftlayout) {
+        return Err(Refusal::Layout);
+    }
+    if !is_layout(rightlayout) {
+        return Err(Refusal::Layout);
+    }
+    Ok(())
 }
 
 // Tests the parts of a record over n leaves.
@@ -54,22 +61,23 @@ pub fn contents(s: &[u8], n: u16) -> Result<(), Refusal>
     requires { Sized s.now n }
     ensures { ToldContents (parts_of s.now n) (told result) }
 {
-    if let Some(row) = bad_row_at(s, LEFT_ROWS_AT, n) {
-        return Err(Refusal::LeftRow(row));
-    }
-    if let Some(row) = bad_row_at(s, right_rows_at(n), n) {
-        return Err(Refusal::RightRow(row));
-    }
-    if !one_to_one_at(s, links_at(n), n) {
-        return Err(Refusal::Links);
-    }
-    let left = left_layout_at(n);
-    let right = right_layout_at(n);
-    if !is_layout(&s[left..right]) {
-        return Err(Refusal::Layout);
-    }
-    if !is_layout(&s[right..]) {
-        return Err(Refusal::Layout);
-    }
-    Ok(())
+    let m = 2 * (n as usize - 1);
+    let left = NumbersAt {
+        bytes: s,
+        at: LEFT_ROWS_AT,
+        many: m,
+    };
+    let right = NumbersAt {
+        bytes: s,
+        at: right_rows_at(n),
+        many: m,
+    };
+    let links = NumbersAt {
+        bytes: s,
+        at: links_at(n),
+        many: n as usize,
+    };
+    let from = left_layout_at(n);
+    let to = right_layout_at(n);
+    test_parts(n, &left, &right, &links, &s[from..to], &s[to..])
 }

@@ -54,6 +54,11 @@ get_d_made f n i h = from 0 n i h ∙ ap f (omega arith)
     from k (suc m) zero p = ap f (omega arith)
     from k (suc m) (suc j) p = from (suc k) m j (omega arith) ∙ ap f (omega arith)
 
+-- the number at place k of those that stand from a place on
+pub entry_at : (s : List ℕ) (at m k place : ℕ) → k < m → place ≡ at + 2 * k → two s place ≡ get_or (numbers s at m) k 0
+unfolding numbers
+entry_at s at m k place h e = ap (two s) e ∙ sym (get_d_made (λ i. two s (at + 2 * i)) m k h)
+
 pub length-numbers : (s : List ℕ) (at n : ℕ) → length (numbers s at n) ≡ n
 unfolding numbers
 length-numbers s at n = length-map-range (λ i. two s (at + 2 * i)) 0 n

@@ -6,6 +6,7 @@ pub mod copying;
 pub mod fields;
 mod filling;
 pub mod hold;
+pub mod numbers;
 pub mod refusal;
 
 pub use filling::{fill_links, fill_rows};
