@@ -7,24 +7,20 @@ ghost use Rattle.merge.specs.Entries.{entry_for, named_by, names_none};
 pub fn names_none(entry: i32, n: u16, i: u16) -> bool
     ensures { result ≡ names_none n i entry }
 {
-    if entry == 0 {
-        return true;
-    }
-    if 0 < entry {
-        return i as i32 <= entry;
-    }
-    entry < 0 - (n as i32)
+    entry == 0 || entry < -i32::from(n) || i32::from(i) <= entry
 }
 
-// The object that an entry names, which is a leaf or the object of a row below 512.
+// The object that an entry names, which is a leaf or the object of a row below 512. (Not one function with the test, and
+// an Option: a loop over a table needs one of the two alone, and would unwrap what the test has shown.)
 pub fn named_by(entry: i32, n: u16) -> u16
     requires { (n ≤ 512) × (names_none n 512 entry ≡ false) }
     ensures { result ≡ named_by n entry }
 {
     if entry < 0 {
-        return (0 - entry) as u16;
+        entry.unsigned_abs() as u16
+    } else {
+        n + entry as u16
     }
-    n + (entry as u16)
 }
 
 // The entry that names an object: minus its number for a leaf, plus the row's number for a row's object.
@@ -32,7 +28,8 @@ pub fn entry_for(object: u16, n: u16) -> i32
     ensures { result ≡ entry_for n object }
 {
     if object <= n {
-        return 0 - (object as i32);
+        -i32::from(object)
+    } else {
+        i32::from(object - n)
     }
-    (object - n) as i32
 }

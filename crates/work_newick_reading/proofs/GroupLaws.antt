@@ -1,19 +1,20 @@
 -- A group whose parenthesis was read, step by step: the notes T before it, T₁ after its first sentence and T₂ after its second, and the
 -- places where these end.
-use Prim.Native.Nat.{ℕ, ◌+◌, ◌-◌, ◌≤◌, ◌<◌}
+use Rattle.std.specs.Prelude.{Option, Some, None}
+use Prim.Native.Nat.{ℕ, ◌+◌, ◌-◌, ◌<◌}
 use mathlib.Core.Path.{◌≡◌, refl, sym, ap, ◌∙◌, subst}
 use mathlib.Core.Logic.{◌≢◌}
 use mathlib.Core.List.{List}
 use native.Mathlib.Omega.{arith}
 use lib.ListN.{get_or, drop}
-use Rattle.newick.specs.Sentence.{group, Length, none}
+use Rattle.newick.specs.Sentence.{group, Length}
 use Rattle.newick.specs.Reading.{Read, broken, length_in, group_by, subtree_in}
 use Rattle.work_newick_reading.specs.Text.{Place}
 use Rattle.work_newick_reading.specs.Notes.{last_in, open_in, Notes, opened, closed, Noted}
 use Rattle.work_newick_reading.specs.Reads.{LengthEnds, Reads}
 use Rattle.work_newick_reading.proofs.Text.{place-behind}
-use Rattle.work_newick_reading.proofs.NotesLaws.{opened_open, noted-group, open_some}
-use Rattle.work_newick_reading.proofs.ReaderLaws.{answered_0, Got, answered, reads_with_length}
+use Rattle.work_newick_reading.proofs.NotesLaws.{opened_open, noted-group}
+use Rattle.work_newick_reading.proofs.ReaderLaws.{answered_none, Got, answered, reads_with_length}
 use Rattle.work_newick_reading.proofs.ReaderLaws.{group_no_first, group_no_comma, group_no_second, group_no_end, group-whole}
 
 -- where a group begins, behind its parenthesis
@@ -26,7 +27,7 @@ pub record Begun (text : List ℕ) (at : ℕ) (T : List ℕ) : Type 0 where
 abbrev sub : List ℕ → List ℕ → Read
 sub T = subtree_in (510 - open_in T)
 
-abbrev pub GroupReads : List ℕ → ℕ → List ℕ → List ℕ → ℕ → Type 0
+abbrev pub GroupReads : List ℕ → ℕ → List ℕ → List ℕ → Option ℕ → Type 0
 GroupReads text at T T' r = Reads (group_by (sub T) (drop at text)) text at T T' r
 
 -- its first sentence was read; its second was
@@ -39,8 +40,8 @@ pub record SecondIn (text : List ℕ) (at : ℕ) (T T₁ : List ℕ) (comma : �
   pub is-comma : get_or text comma 256 ≡ 44
   pub got : Got text (comma + 1) T₁ T₂ (sub T (drop (comma + 1) text)) end
 
-none_read : (text : List ℕ) (at : ℕ) (T T' : List ℕ) → group_by (sub T) (drop at text) ≡ broken → GroupReads text at T T' 0
-none_read text at T T' e = rw e refl
+none_read : (text : List ℕ) (at : ℕ) (T T' : List ℕ) → group_by (sub T) (drop at text) ≡ broken → GroupReads text at T T' None
+none_read text at T T' e = rw e tt
 
 -- ---- the first sentence
 
@@ -54,25 +55,28 @@ module _ {text : List ℕ} {at : ℕ} {T : List ℕ} (b : Begun text at T) where
       let f : 511 - open_in T' ≡ 510 - open_in T = omega arith in
       ap (λ d. subtree_in d (drop from text)) f
 
-  module _ (T₀ T₁ : List ℕ) (is-opened : T₀ ≡ opened T) (comma : ℕ)
-      (first : Reads (subtree_in (511 - open_in T₀) (drop at text)) text at T₀ T₁ comma) where
-    first_reads : Reads (sub T (drop at text)) text at (opened T) T₁ comma
-    first_reads =
-        subst (λ R. Reads R text at (opened T) T₁ comma) (inside (opened T) at refl)
-        (subst (λ X. Reads (subtree_in (511 - open_in X) (drop at text)) text at X T₁ comma) is-opened first)
+  module _ (T₀ T₁ : List ℕ) (is-opened : T₀ ≡ opened T) where
+    first_reads : (r : Option ℕ) → Reads (subtree_in (511 - open_in T₀) (drop at text)) text at T₀ T₁ r →
+        Reads (sub T (drop at text)) text at (opened T) T₁ r
+    first_reads r first =
+        subst (λ R. Reads R text at (opened T) T₁ r) (inside (opened T) at refl)
+        (subst (λ X. Reads (subtree_in (511 - open_in X) (drop at text)) text at X T₁ r) is-opened first)
 
-    pub first-broken : comma ≡ 0 → (T' : List ℕ) → GroupReads text at T T' 0
-    first-broken z T' =
+    pub first-broken : Reads (subtree_in (511 - open_in T₀) (drop at text)) text at T₀ T₁ None → (T' : List ℕ) →
+        GroupReads text at T T' None
+    first-broken first T' =
         none_read text at T T'
-        (group_no_first (sub T) text at (answered_0 text at (opened T) T₁ (sub T (drop at text)) comma first_reads z))
+        (group_no_first (sub T) text at (answered_none text at (opened T) T₁ (sub T (drop at text)) (first_reads None first)))
 
-    pub first_in : comma ≢ 0 → FirstIn text at T T₁ comma
-    first_in some = record { begun = b; got = answered text at (opened T) T₁ (sub T (drop at text)) comma first_reads some }
+    pub first_in : (comma : ℕ) → Reads (subtree_in (511 - open_in T₀) (drop at text)) text at T₀ T₁ (Some comma) →
+        FirstIn text at T T₁ comma
+    first_in comma first =
+        record { begun = b; got = answered text at (opened T) T₁ (sub T (drop at text)) comma (first_reads (Some comma) first) }
 
 -- ---- the comma and the second sentence
 
 module _ {text : List ℕ} {at : ℕ} {T T₁ : List ℕ} {comma : ℕ} (f : FirstIn text at T T₁ comma) where
-  pub no_comma : get_or text comma 256 ≢ 44 → (T' : List ℕ) → GroupReads text at T T' 0
+  pub no_comma : get_or text comma 256 ≢ 44 → (T' : List ℕ) → GroupReads text at T T' None
   no_comma n T' = none_read text at T T' (group_no_comma (sub T) text at f.got.sentence comma f.got.is_read n)
 
   pub comma-place : Place text comma
@@ -82,49 +86,39 @@ module _ {text : List ℕ} {at : ℕ} {T T₁ : List ℕ} {comma : ℕ} (f : Fir
     pub second_place : Place text (comma + 1)
     second_place = place-behind text comma 44 comma-place is-comma (omega arith)
 
-    module _ (T₂ : List ℕ) (end : ℕ)
-        (second : Reads (subtree_in (511 - open_in T₁) (drop (comma + 1) text)) text (comma + 1) T₁ T₂ end) where
-      second_reads : Reads (sub T (drop (comma + 1) text)) text (comma + 1) T₁ T₂ end
-      second_reads =
-          subst (λ R. Reads R text (comma + 1) T₁ T₂ end) (inside f.begun T₁ (comma + 1) f.got.its_notes.as_many_open) second
+    module _ (T₂ : List ℕ) where
+      second_reads : (r : Option ℕ) → Reads (subtree_in (511 - open_in T₁) (drop (comma + 1) text)) text (comma + 1) T₁ T₂ r →
+          Reads (sub T (drop (comma + 1) text)) text (comma + 1) T₁ T₂ r
+      second_reads r second =
+          subst (λ R. Reads R text (comma + 1) T₁ T₂ r) (inside f.begun T₁ (comma + 1) f.got.its_notes.as_many_open) second
 
-      pub second_broken : end ≡ 0 → (T' : List ℕ) → GroupReads text at T T' 0
-      second_broken z T' =
+      pub second_broken : Reads (subtree_in (511 - open_in T₁) (drop (comma + 1) text)) text (comma + 1) T₁ T₂ None → (T' : List ℕ) →
+          GroupReads text at T T' None
+      second_broken second T' =
           none_read text at T T'
           (group_no_second (sub T) text at f.got.sentence comma f.got.is_read is-comma
-          (answered_0 text (comma + 1) T₁ T₂ (sub T (drop (comma + 1) text)) end second_reads z))
+          (answered_none text (comma + 1) T₁ T₂ (sub T (drop (comma + 1) text)) (second_reads None second)))
 
-      pub second_in : end ≢ 0 → SecondIn text at T T₁ comma T₂ end
-      second_in more = record {
+      pub second_in : (end : ℕ) → Reads (subtree_in (511 - open_in T₁) (drop (comma + 1) text)) text (comma + 1) T₁ T₂ (Some end) →
+          SecondIn text at T T₁ comma T₂ end
+      second_in end second = record {
         first = f;
         is-comma = is-comma;
-        got = answered text (comma + 1) T₁ T₂ (sub T (drop (comma + 1) text)) end second_reads more;
+        got = answered text (comma + 1) T₁ T₂ (sub T (drop (comma + 1) text)) end (second_reads (Some end) second);
       }
 
 -- ---- its end
 
 module _ {text : List ℕ} {at : ℕ} {T T₁ : List ℕ} {comma : ℕ} {T₂ : List ℕ} {end : ℕ} (s : SecondIn text at T T₁ comma T₂ end) where
-  pub no_end : get_or text end 256 ≢ 41 → (T' : List ℕ) → GroupReads text at T T' 0
+  pub no_end : get_or text end 256 ≢ 41 → (T' : List ℕ) → GroupReads text at T T' None
   no_end n T' =
       let f = s.first.got in
       none_read text at T T'
       (group_no_end (sub T) text at f.sentence comma f.is_read s.is-comma s.got.sentence end s.got.is_read n)
 
-  pub still_open : 1 ≤ open_in T₂
-  still_open =
-      let b = s.first.begun in
-      let f = s.first.got in
-      open_some f.sentence s.got.sentence none T b.notes b.few T₁ T₂ f.its_notes s.got.its_notes
-
-  pub end-place : Place text end
-  end-place = record { within = s.got.ends.within; in_memory = s.first.begun.place.in_memory }
-
   module _ (is-end : get_or text end 256 ≡ 41) where
-    pub last-place : Place text (end + 1)
-    last-place = place-behind text end 41 end-place is-end (omega arith)
-
-    pub group_reads : (T₃ : List ℕ) (r : ℕ) → T₃ ≡ closed (last_in T₁) T₂ → LengthEnds (length_in (drop (end + 1) text)) text (end + 1) r →
-        GroupReads text at T T₃ r
+    pub group_reads : (T₃ : List ℕ) (r : Option ℕ) → T₃ ≡ closed (last_in T₁) T₂ →
+        LengthEnds (length_in (drop (end + 1) text)) text (end + 1) r → GroupReads text at T T₃ r
     group_reads T₃ r e length =
         let b = s.first.begun in
         let f = s.first.got in

@@ -1,12 +1,14 @@
 -- The length that may stand behind a subtree: read from the byte at a place, and from where the digits behind it end.
+use Rattle.std.specs.Prelude.{Option, Some}
+use Rattle.std.specs.Bool.{then_some}
 use Prim.Native.Nat.{ℕ, suc, ◌+◌, ◌≤◌}
 use mathlib.Core.Path.{◌≡◌, refl, sym, ap, ◌∙◌}
 use mathlib.Core.Logic.{◌≢◌}
 use mathlib.Core.Bool.{Bool, true, false, cond}
 use mathlib.Core.List.{List, [], ◌∷◌}
 use native.Mathlib.Omega.{arith}
-use borrow.Author.Tests.{eq-eqb, ne_eqb}
-use lib.Dec.{eqb}
+use borrow.Author.Tests.{eq-eqb, ne_eqb, ltb-true, ltb-false}
+use lib.Dec.{eqb, ltb}
 use lib.ListN.{length, get_or, drop, length-drop}
 use Rattle.newick.specs.Sentence.{whole, pointed}
 use Rattle.newick.specs.Reading.{is_digit, digits, past_digits, no_length, length_read, length_behind, length_in, head}
@@ -26,7 +28,7 @@ digits-split (x ∷ xs) = go (is_digit x) (digits-split xs)
 
 module _ (text : List ℕ) where
   -- as many as there are places up to their end
-  pub digits_long : (at end leaf : ℕ) → DigitsEnd text at end leaf → at + length (digits (drop at text)) ≡ end
+  pub digits_long : (at end : ℕ) (leaf : Option ℕ) → DigitsEnd text at end leaf → at + length (digits (drop at text)) ≡ end
   digits_long at end leaf d =
       let e = d.ends in
       let s = digits-split (drop at text) in
@@ -34,7 +36,7 @@ module _ (text : List ℕ) where
       omega (arith, e.ahead, e.within, length-drop at text, length-drop end text)
 
   module _ (at : ℕ) (within : at ≤ length text) where
-    pub length_none : get_or text at 256 ≢ 58 → LengthEnds (length_in (drop at text)) text at at
+    pub length_none : get_or text at 256 ≢ 58 → LengthEnds (length_in (drop at text)) text at (Some at)
     unfolding length_in
     length_none h = rw (ne_eqb (head (drop at text)) 58 (λ z. h (sym (head_at text at) ∙ z))) (record {
       ahead = omega arith;
@@ -42,7 +44,7 @@ module _ (text : List ℕ) where
       left = refl;
     })
 
-    module _ (colon-there : get_or text at 256 ≡ 58) (end leaf : ℕ) (d : DigitsEnd text (at + 1) end leaf) where
+    module _ (colon-there : get_or text at 256 ≡ 58) (end : ℕ) (leaf : Option ℕ) (d : DigitsEnd text (at + 1) end leaf) where
       behind-colon : length_in (drop at text) ≡ length_behind (drop (at + 1) text)
       unfolding length_in
       behind-colon = rw (eq-eqb (head (drop at text)) 58 (head_at text at ∙ colon-there), behind-at text at) refl
@@ -60,23 +62,22 @@ module _ (text : List ℕ) where
             behind-colon
             ∙ rw (rest_is, ne_eqb (head (drop end text)) 46 (λ z. no_point (sym (head_at text end) ∙ z))) refl
 
-        pub whole-none : end ≡ at + 1 → LengthEnds (length_in (drop at text)) text at 0
-        whole-none h =
+        pub whole_length : (b : Bool) → b ≡ ltb (at + 1) end → LengthEnds (length_in (drop at text)) text at (then_some b end)
+        whole_length true h =
+            let more = ltb-true (at + 1) end (sym h) in
             let long = digits_long (at + 1) end leaf d in
-            rw (whole-read, eq-eqb (length (digits (drop (at + 1) text))) 0 (omega arith)) refl
-
-        pub whole_length : end ≢ at + 1 → LengthEnds (length_in (drop at text)) text at end
-        whole_length h =
-            let long = digits_long (at + 1) end leaf d in
-            let ahead = d.ends.ahead in
-            rw (whole-read, ne_eqb (length (digits (drop (at + 1) text))) 0 (λ z. h (omega arith))) (record {
+            rw (whole-read, ne_eqb (length (digits (drop (at + 1) text))) 0 (λ z. absurd (omega arith))) (record {
               ahead = omega arith;
               within = d.ends.within;
               left = refl;
             })
+        whole_length false h =
+            let less = ltb-false (at + 1) end (sym h) in
+            let long = digits_long (at + 1) end leaf d in
+            rw (whole-read, eq-eqb (length (digits (drop (at + 1) text))) 0 (omega arith)) tt
 
       -- a point
-      module _ (point-there : get_or text end 256 ≡ 46) (end' leaf' : ℕ) (d' : DigitsEnd text (end + 1) end' leaf') where
+      module _ (point-there : get_or text end 256 ≡ 46) (end' : ℕ) (leaf' : Option ℕ) (d' : DigitsEnd text (end + 1) end' leaf') where
         pointed-read : length_in (drop at text)
             ≡ cond (eqb (length (digits (drop (at + 1) text)) + length (digits (drop (end + 1) text))) 0) no_length
             (length_read (pointed (digits (drop (at + 1) text)) (digits (drop (end + 1) text))) (drop end' text))
@@ -91,14 +92,15 @@ module _ (text : List ℕ) where
             let b = digits_long (end + 1) end' leaf' d' in
             omega arith
 
-        pub pointed-none : end' ≡ at + 2 → LengthEnds (length_in (drop at text)) text at 0
-        pointed-none h =
+        pub pointed-length : (b : Bool) → b ≡ ltb (at + 1 + 1) end' →
+            LengthEnds (length_in (drop at text)) text at (then_some b end')
+        pointed-length true h =
+            let more = ltb-true (at + 1 + 1) end' (sym h) in
             let long = long-both in
-            rw (pointed-read, eq-eqb (length (digits (drop (at + 1) text)) + length (digits (drop (end + 1) text))) 0 (omega arith)) refl
-
-        pub pointed-length : end' ≢ at + 2 → LengthEnds (length_in (drop at text)) text at end'
-        pointed-length h =
-            let long = long-both in
-            let some : length (digits (drop (at + 1) text)) + length (digits (drop (end + 1) text)) ≢ 0 = λ z. h (omega arith) in
+            let some : length (digits (drop (at + 1) text)) + length (digits (drop (end + 1) text)) ≢ 0 = λ z. absurd (omega arith) in
             rw (pointed-read, ne_eqb (length (digits (drop (at + 1) text)) + length (digits (drop (end + 1) text))) 0 some)
             (record { ahead = omega arith; within = d'.ends.within; left = refl })
+        pointed-length false h =
+            let less = ltb-false (at + 1 + 1) end' (sym h) in
+            let long = long-both in
+            rw (pointed-read, eq-eqb (length (digits (drop (at + 1) text)) + length (digits (drop (end + 1) text))) 0 (omega arith)) tt

@@ -8,3 +8,4 @@ pub mod ReaderLaws
 pub mod GroupLaws
 pub mod WholeLaws
 pub mod Fresh
+pub mod NotesView

@@ -48,13 +48,6 @@ module _ (T : List ℕ) (g : Notes T) (h : open_in T < 511) where
   pub opened_open : open_in (opened T) ≡ open_in T + 1
   opened_open = let long = g.long in get_or-set_same T 1024 (open_in T + 1) 0 (omega arith)
 
-  pub opened-notes : Notes (opened T)
-  opened-notes = record {
-    long = simp length-set g.long;
-    few_open = rw opened_open (omega arith);
-    few_closed = rw opened-closed g.few_closed;
-  }
-
 -- ---- a row noted
 
 module _ (X : List ℕ) (long : length X ≡ 1025) (first : ℕ) (few : closed_in X < 511) where
@@ -130,9 +123,6 @@ module _ (a b : Sentence) (l : Length) (T : List ℕ) (g : Notes T) (h : open_in
   less_rows : (m : ℕ) → m ≤ 1024 → take m less ≡ take m T₂
   unfolding less
   less_rows m p = take-set-le m T₂ 1024 (open_in T₂ - 1) p
-
-  pub open_some : 1 ≤ open_in T₂
-  open_some = let e = nb.as_many_open ∙ na.as_many_open ∙ opened_open T g h in omega arith
 
   -- how many have closed before it does
   closed_before : closed_in T + (groups a + groups b) ≤ 511 → closed_in T₂ ≡ closed_in T + (groups a + groups b)

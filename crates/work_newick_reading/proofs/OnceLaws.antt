@@ -1,7 +1,7 @@
 -- Leaves marked one after the other: a leaf is marked exactly if it was seen, so the marks tell what `fresh` tells.
 use Prim.Native.Nat.{ℕ, pred, ◌+◌, ◌≤◌, ◌<◌}
 use mathlib.Core.Path.{◌≡◌, refl, sym, ap, ◌∙◌}
-use mathlib.Core.Logic.{◌≢◌}
+use mathlib.Core.Logic.{◌≢◌, ◌⊎◌, inl, inr}
 use mathlib.Core.Bool.{Bool, true, false, ◌||◌, or_comm}
 use mathlib.Core.List.{List, [], ◌∷◌, ◌++◌}
 use native.Mathlib.Decide.{dec_le, ℕ_discrete}
@@ -11,6 +11,7 @@ use borrow.Author.Tests.{eq-eqb, ne_eqb, lt-ltb, le-ltb, le-leb, lt-leb}
 use lib.Dec.{eqb}
 use lib.ListN.{length, get_or, take, drop, replicate, drop_of_length-le}
 use lib.Seq.{drop-cons, get_or-take, length-take-le}
+use Rattle.std.proofs.lemmas.List.{length-take}
 use Rattle.work_tree_rule.specs.Rule.{among}
 use Rattle.work_seen_places.specs.Seen.{is_marked, mark_at}
 use Rattle.work_seen_places.proofs.SeenPlaces.{mark_number, length_mark, none_before}
@@ -19,6 +20,15 @@ use Rattle.work_newick_reading.specs.Once.{refused_leaf, fresh, Marked, refused_
 
 pub true-false : {A : Type 0} → true ≡ false → A
 true-false e = absurd (let z : ◌≡◌ {A = ℕ} 0 1 = cc in omega arith)
+
+-- ---- the entries, which are the first k of the notes
+
+module _ (T es : List ℕ) (k : ℕ) where
+  pub within : es ≡ take k T → length es ≡ k → k ≤ length T
+  within e long = omega (arith, ap length e, length-take k T)
+
+  pub entry_of : (i : ℕ) → es ≡ take k T → length es ≡ k → i < length es → get_or es i 0 ≡ get_or T i 0
+  entry_of i e long h = ap (λ z. get_or z i 0) e ∙ get_or-take k T i 0 (omega arith)
 
 -- ---- one entry
 
@@ -37,11 +47,11 @@ module _ (w : List ℕ) (x n : ℕ) where
     leaf_marked = λ p q. true-false (sym e ∙ q);
   }
 
-  pub marked_0 : x ≡ 0 → MarkedMore w x n false w
+  marked_0 : x ≡ 0 → MarkedMore w x n false w
   marked_0 h = refused-more (rw (eq-eqb x 0 h) refl) (omega arith)
 
   module _ (some : x ≢ 0) (below : x < 1024) where
-    pub marked-above : n < x → MarkedMore w x n false w
+    marked-above : n < x → MarkedMore w x n false w
     marked-above h = refused-more (rw (ne_eqb x 0 some, lt-ltb n x h) refl) below
 
     module _ (most : x ≤ n) where
@@ -55,6 +65,11 @@ module _ (w : List ℕ) (x n : ℕ) where
             leaf_refused = λ p q. true-false (sym q ∙ e);
             leaf_marked = λ p q. (refl, refl);
           }
+
+  -- 0, or above n
+  pub marked-beyond : x < 1024 → (x ≡ 0) ⊎ ((x ≡ 0 → ⊥) × (n < x)) → MarkedMore w x n false w
+  marked-beyond below (inl none) = marked_0 none
+  marked-beyond below (inr above) = marked-above above.0 below above.1
 
 -- ---- marks and what was seen
 

@@ -1,10 +1,11 @@
 -- The readers, case by case: what the definitions read at a place, from the byte there and from what was read before.
+use Rattle.std.specs.Prelude.{Option, Some, None, unwrap_or}
 use Prim.Native.Nat.{ℕ, zero, suc, ◌+◌, ◌≤◌, ◌<◌}
 use mathlib.Core.Path.{◌≡◌, refl, sym, ap, ◌∙◌, subst}
 use mathlib.Core.Logic.{◌≢◌}
 use mathlib.Core.Bool.{true, false, ◌||◌, or-true}
 use mathlib.Core.List.{List, [], ◌∷◌}
-use native.Mathlib.Decide.{ℕ_discrete}
+use native.Mathlib.Decide.{ℕ_discrete, dec_le}
 use native.Mathlib.Omega.{arith}
 use borrow.Author.Tests.{eq-eqb, ne_eqb, le-leb, lt-leb}
 use lib.Dec.{eqb}
@@ -16,17 +17,17 @@ use Rattle.work_newick_reading.specs.Text.{Ends}
 use Rattle.work_newick_reading.specs.Notes.{Notes, Noted}
 use Rattle.work_newick_reading.specs.Reads.{DigitsEnd, LengthEnds, Reads}
 use Rattle.work_newick_reading.proofs.Text.{head_at, behind-at, text_at, byte-within}
-use Rattle.work_newick_reading.proofs.DigitLaws.{digit_low, digit_high, digits_more, digits-none}
+use Rattle.work_newick_reading.proofs.DigitLaws.{digit_low, digit_high, digits_more, digits-none, leaf-noted}
 use Rattle.work_newick_reading.proofs.LengthLaws.{digits_long}
 use Rattle.work_newick_reading.proofs.NotesLaws.{noted-leaf}
 
 -- ---- what a reader answers
 
 module _ (text : List ℕ) (at : ℕ) (T T' : List ℕ) where
-  -- 0: nothing was read
-  pub answered_0 : (R : Read) (r : ℕ) → Reads R text at T T' r → r ≡ 0 → R ≡ broken
-  answered_0 broken r h z = refl
-  answered_0 (read s rest) r h z = absurd (omega (arith, h.1))
+  -- none: nothing was read
+  pub answered_none : (R : Read) → Reads R text at T T' None → R ≡ broken
+  answered_none broken h = refl
+  answered_none (read s rest) h = absurd h
 
   -- any other place: a sentence was read, up to there
   pub record Got (R : Read) (r : ℕ) : Type 0 where
@@ -36,9 +37,9 @@ module _ (text : List ℕ) (at : ℕ) (T T' : List ℕ) where
     pub further : at < r
     pub its_notes : Noted sentence T T'
 
-  pub answered : (R : Read) (r : ℕ) → Reads R text at T T' r → r ≢ 0 → Got R r
-  answered broken r h z = absurd (z h)
-  answered (read s rest) r h z = record {
+  pub answered : (R : Read) (r : ℕ) → Reads R text at T T' (Some r) → Got R r
+  answered broken r h = absurd h
+  answered (read s rest) r h = record {
     sentence = s;
     is_read = ap (read s) (sym h.0.left);
     ends = record { ahead = h.0.ahead; within = h.0.within; left = refl };
@@ -47,17 +48,21 @@ module _ (text : List ℕ) (at : ℕ) (T T' : List ℕ) where
   }
 
   -- from a place further on
-  pub from_further : (R : Read) (r from : ℕ) → at ≤ from → Reads R text from T T' r → Reads R text at T T' r
-  from_further broken r from p h = h
-  from_further (read s rest) r from p h =
+  pub from_further : (R : Read) (r : Option ℕ) (from : ℕ) → at ≤ from → Reads R text from T T' r → Reads R text at T T' r
+  from_further broken None from p h = tt
+  from_further broken (Some r) from p h = h
+  from_further (read s rest) None from p h = h
+  from_further (read s rest) (Some r) from p h =
       let e = h.0 in
       (record { ahead = omega (arith, e.ahead); within = e.within; left = e.left }, omega (arith, h.1), h.2)
 
   -- with the length behind it
-  pub reads_with_length : (f : Length → Sentence) (end r : ℕ) → at < end → ((l : Length) → Noted (f l) T T') →
+  pub reads_with_length : (f : Length → Sentence) (end : ℕ) (r : Option ℕ) → at < end → ((l : Length) → Noted (f l) T T') →
       (L : LengthRead) → LengthEnds L text end r → Reads (with_length f L) text at T T' r
-  reads_with_length f end r p n no_length h = h
-  reads_with_length f end r p n (length_read l rest) h =
+  reads_with_length f end None p n no_length h = tt
+  reads_with_length f end (Some r) p n no_length h = h
+  reads_with_length f end None p n (length_read l rest) h = h
+  reads_with_length f end (Some r) p n (length_read l rest) h =
       (record { ahead = omega (arith, h.ahead); within = h.within; left = h.left }, omega (arith, h.ahead), n l)
 
 -- ---- a leaf
@@ -76,7 +81,7 @@ module _ (text : List ℕ) (at : ℕ) where
   no_digit-broken e =
       leaf-broken (drop at text) (rw (digits-head (drop at text) (ap is_digit (head_at text at) ∙ e)) refl)
 
-  pub leaf_low : get_or text at 256 < 49 → leaf_in (drop at text) ≡ broken
+  leaf_low : get_or text at 256 < 49 → leaf_in (drop at text) ≡ broken
   leaf_low h = go (ℕ_discrete (get_or text at 256) 48)
     where
       go : Dec (get_or text at 256 ≡ 48) → leaf_in (drop at text) ≡ broken
@@ -85,8 +90,17 @@ module _ (text : List ℕ) (at : ℕ) where
           (rw (eq-eqb (head (drop at text)) 48 (head_at text at ∙ e)) (or-true (eqb (length (digits (drop at text))) 0)))
       go (no e) = no_digit-broken (sym (digit_low (get_or text at 256) (omega arith)))
 
-  pub leaf_high : 57 < get_or text at 256 → leaf_in (drop at text) ≡ broken
+  leaf_high : 57 < get_or text at 256 → leaf_in (drop at text) ≡ broken
   leaf_high h = no_digit-broken (sym (digit_high (get_or text at 256) (omega arith)) ∙ lt-leb (get_or text at 256) 57 h)
+
+  -- no byte, or one that is no digit from 1 to 9
+  pub leaf-other : ((49 ≤ get_or text at 256) → (get_or text at 256 ≤ 57) → ⊥) → leaf_in (drop at text) ≡ broken
+  leaf-other n = go (dec_le 49 (get_or text at 256)) (dec_le (get_or text at 256) 57)
+    where
+      go : Dec (49 ≤ get_or text at 256) → Dec (get_or text at 256 ≤ 57) → leaf_in (drop at text) ≡ broken
+      go (yes p) (yes q) = absurd (n p q)
+      go (yes p) (no q) = leaf_high (omega arith)
+      go (no p) q = leaf_low (omega arith)
 
   module _ (low : 49 ≤ get_or text at 256) (high : get_or text at 256 ≤ 57) where
     within : at < length text
@@ -109,18 +123,19 @@ module _ (text : List ℕ) (at : ℕ) where
         let other : head (drop at text) ≢ 48 = λ z. absurd (omega (arith, head_at text at)) in
         rw (ne_eqb (length (digits (drop at text))) 0 some, ne_eqb (head (drop at text)) 48 other) refl
 
-    pub digits_further : (end leaf : ℕ) → DigitsEnd text at end leaf → at < end
+    pub digits_further : (end : ℕ) (leaf : Option ℕ) → DigitsEnd text at end leaf → at < end
     digits_further end leaf d = omega (arith, digits_long text at end leaf d, ap length first-digit.0)
 
-    pub leaf-read : (T : List ℕ) → Notes T → (end leaf r : ℕ) → DigitsEnd text at end leaf →
-        LengthEnds (length_in (drop end text)) text end r → Reads (leaf_in (drop at text)) text at T (set T 1023 leaf) r
+    pub leaf-read : (T : List ℕ) → Notes T → (end : ℕ) (leaf r : Option ℕ) → DigitsEnd text at end leaf →
+        LengthEnds (length_in (drop end text)) text end r → Reads (leaf_in (drop at text)) text at T (set T 1023 (unwrap_or leaf 0)) r
     leaf-read T g end leaf r d h =
         let ds = digits (drop at text) in
+        let T' = set T 1023 (unwrap_or leaf 0) in
         let ahead = digits_further end leaf d in
-        subst (λ R. Reads R text at T (set T 1023 leaf) r)
+        subst (λ R. Reads R text at T T' r)
         (sym (leaf-good ∙ ap (λ xs. with_length (number ds) (length_in xs)) (sym d.ends.left)))
-        (reads_with_length text at T (set T 1023 leaf) (number ds) end r ahead (λ l. noted-leaf ds l T leaf g d.says)
-        (length_in (drop end text)) h)
+        (reads_with_length text at T T' (number ds) end r ahead
+        (λ l. noted-leaf ds l T (unwrap_or leaf 0) g (leaf-noted ds leaf d.says)) (length_in (drop end text)) h)
 
 -- ---- a group whose parenthesis was read
 

@@ -1,5 +1,7 @@
 -- Places of a text: the byte at a place, and the text from a place on.
-use Prim.Native.Nat.{ℕ, suc, ◌+◌, ◌≤◌, ◌<◌, ◌^◌}
+use Rattle.std.specs.Prelude.{Some, None, slice_get, unwrap_or}
+use Rattle.std.proofs.lemmas.Option.{unwrap_or-slice_get, get_or_from_slice_get}
+use Prim.Native.Nat.{ℕ, suc, ◌+◌, ◌≤◌, ◌<◌}
 use mathlib.Core.Path.{◌≡◌, refl, sym, ap, ◌∙◌}
 use mathlib.Core.Logic.{◌≢◌}
 use mathlib.Core.List.{List, [], ◌∷◌}
@@ -10,7 +12,7 @@ use native.Mathlib.Omega.{arith}
 use lib.ListN.{length, get_or, drop, drop_of_length-le, get_or-eq_default}
 use lib.Seq.{get_or-drop, drop-drop, drop-cons}
 use Rattle.newick.specs.Reading.{head, behind}
-use Rattle.work_newick_reading.specs.Text.{Place, Ends}
+use Rattle.work_newick_reading.specs.Text.{Place}
 
 -- within a list it does not matter what stands for nothing
 pub within_same : (xs : List ℕ) (at d e : ℕ) → at < length xs → get_or xs at d ≡ get_or xs at e
@@ -49,10 +51,9 @@ module _ (text : List ℕ) where
       let there = byte-within at (λ z. absurd (omega arith)) in
       record { within = omega arith; in_memory = p.in_memory }
 
-  -- its number fits
-  pub place_fits : (at b : ℕ) → Place text at → get_or text at 256 ≡ b → b < 256 → at + 1 < 2 ^ 64
-  place_fits at b p e h = let q = place-behind at b p e h in omega (arith, q.within, q.in_memory)
+-- what the byte at a place tells
+pub no_byte : (text : List ℕ) (at : ℕ) → None ≡ slice_get text at → get_or text at 256 ≡ 256
+no_byte text at e = sym (unwrap_or-slice_get text at 256) ∙ ap (λ o. unwrap_or o 256) (sym e)
 
-  -- a place further on
-  pub place_on : {at : ℕ} {rest : List ℕ} (r : ℕ) → Place text at → Ends text at rest r → Place text r
-  place_on r p e = record { within = e.within; in_memory = p.in_memory }
+pub byte_is : (text : List ℕ) (at byte : ℕ) → Some byte ≡ slice_get text at → get_or text at 256 ≡ byte
+byte_is text at byte e = get_or_from_slice_get text at byte 256 (sym e)

@@ -1,4 +1,4 @@
--- What is noted while a text is read, in an array of 1,025 numbers: the rows of the groups that have closed, two entries each, from its
+-- What is noted while a text is read, as one list of 1,025 numbers: the rows of the groups that have closed, two entries each, from its
 -- first place on; how many have closed, up to 512; the object that was read last; and how many groups are open. Objects are those of
 -- `newick/specs/Noted`.
 use Rattle.std.specs.Prelude.{ℕ, ◌+◌, ◌-◌, ◌*◌, ◌≤◌, ◌<◌, ◌≡◌, cond, List, ◌++◌, ltb, length, get_or, set, take}

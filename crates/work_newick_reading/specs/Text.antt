@@ -1,10 +1,5 @@
--- A text behind a thin reference, and places in it.
-use Rattle.std.specs.Prelude.{ℕ, ◌≤◌, ◌<◌, ◌^◌, ◌≡◌, List, [], length, get_or, drop}
-use Rattle.std.specs.Borrow.{Bor}
-
--- The text that an array of one slice holds.
-abbrev pub text_in : List (Bor (List ℕ)) → List ℕ
-text_in texts = (get_or texts 0 (record { ref_ptr = (0, 0); now = [] })).now
+-- Places in a text.
+use Rattle.std.specs.Prelude.{ℕ, ◌≤◌, ◌<◌, ◌^◌, ◌≡◌, List, length, drop}
 
 -- A place of a text, or its end; the text is in memory, so that its length is a number of 64 bits.
 pub record Place (text : List ℕ) (at : ℕ) : Type 0 where

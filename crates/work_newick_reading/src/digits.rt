@@ -1,128 +1,84 @@
-// Bytes of a text, and the digits in it. The text is behind a reference to an array of one slice, which is a single
-// word: so the readers that call each other take little of the stack.
-ghost use Rattle.std.specs.Prelude.{◌≡◌, ◌+◌, ◌*◌, ◌-◌, ◌≤◌, get_or, drop};
-ghost use Rattle.newick.specs.Reading.{is_digit, length_in};
-ghost use Rattle.work_newick_reading.specs.Text.{Place, text_in};
-ghost use Rattle.work_newick_reading.specs.Reads.{DigitsEnd, LengthEnds};
+// Bytes of a text, and the digits in it.
+ghost use Rattle.std.specs.Prelude.{◌≡◌, ℕ, ◌+◌, ◌*◌, ◌-◌, ◌≤◌, IfSome, drop, slice_get};
+ghost use Rattle.newick.specs.Reading.{length_in};
+ghost use Rattle.work_newick_reading.specs.Text.{Place};
+ghost use Rattle.work_newick_reading.specs.Reads.{Behind, DigitsEnd, LengthEnds, leaf_of};
 
-// the bytes that mean something in a text, beside the digits 0 to 9, as `byte_at` tells them
-pub const OPENING: u16 = b'(' as u16;
+// A text that is read. The readers that call each other take a reference to it, which is a single word where a slice is
+// two: with a slice each open group took 48 bytes of the stack in place of 32, and 511 of them more than they may.
+#[derive(Drop)]
+pub struct Text<'a> {
+    pub bytes: &'a [u8],
+}
 
-pub const CLOSING: u16 = b')' as u16;
-
-pub const COMMA: u16 = b',' as u16;
-
-pub const POINT: u16 = b'.' as u16;
-
-pub const COLON: u16 = b':' as u16;
-
-pub const SEMICOLON: u16 = b';' as u16;
-// the digits that a leaf number may begin with
-pub const ONE: u16 = b'1' as u16;
-
-pub const NINE: u16 = b'9' as u16;
-// what `byte_at` tells past the end of a text
-const NO_BYTE: u16 = 256;
-
-// Where digits end, and the leaf number that they say, or 0 where it is above 512.
+// Where digits end, and the leaf number that they say, if it is at most 512.
 #[derive(Drop)]
 pub struct DigitsRead {
     pub end: usize,
-    pub leaf: u16,
+    pub leaf: Option<u16>,
 }
 
-// A byte as a wider number.
-fn wide(x: u8) -> u16
-    ensures { result ≡ x }
+// A leaf number with one digit more, if it is at most 512.
+fn with_digit(leaf: Option<u16>, digit: u8) -> Option<u16>
+    requires { IfSome leaf (λ x. x ≤ 512) × (48 ≤ digit) × (digit ≤ 57) }
+    ensures { (v : ℕ) → leaf ≡ leaf_of v → result ≡ leaf_of (10 * v + (digit - 48)) }
 {
-    x as u16
+    let more = 10 * leaf? + u16::from(digit - b'0');
+    (more <= 512).then_some(more)
 }
 
-// The byte at a place of the text, or 256 past its end.
-pub fn byte_at(text: &[&[u8]; 1], at: usize) -> u16
-    ensures { result ≡ get_or (text_in text.now) at 256 }
-{
-    let t = text[0];
-    if t.len() <= at {
-        return NO_BYTE;
+impl<'a> Text<'a> {
+    // The byte at a place, if one stands there.
+    pub fn byte_at(&self, at: usize) -> Option<u8>
+        ensures { result ≡ slice_get self.now.bytes.now at }
+    {
+        self.bytes.get(at).copied()
     }
-    wide(t[at])
-}
 
-// Whether a byte is a digit.
-fn is_digit(x: u8) -> bool
-    ensures { result ≡ is_digit x }
-{
-    if x < b'0' {
-        return false;
-    }
-    x <= b'9'
-}
-
-// A number with one digit more; one that is above 512 stays so, whatever follows.
-fn with_digit(x: u16, digit: u8) -> u16
-    requires { (48 ≤ digit) × (digit ≤ 57) }
-    ensures value { x ≤ 512 → result ≡ 10 * x + (digit - 48) }
-    ensures value_2 { 513 ≤ x → result ≡ x }
-{
-    if 513 <= x {
-        return x;
-    }
-    10 * x + wide(digit - b'0')
-}
-
-// The leaf number as it is noted: 0 where it is above 512.
-fn noted(x: u16) -> u16
-    ensures value { x ≤ 512 → result ≡ x }
-    ensures value_2 { 513 ≤ x → result ≡ 0 }
-{
-    if 512 < x { 0 } else { x }
-}
-
-// The digits from a place on.
-pub fn digits_from(text: &[&[u8]; 1], from: usize) -> DigitsRead
-    requires { Place (text_in text.now) from }
-    ensures { DigitsEnd (text_in text.now) from result.end result.leaf }
-{
-    let t = text[0];
-    let mut x: u16 = 0;
-    let mut at = from;
-    while at < t.len() {
-        let digit = t[at];
-        if !is_digit(digit) {
-            return DigitsRead {
-                end: at,
-                leaf: noted(x),
-            };
+    // The place behind a byte, if that byte stands at a place.
+    pub fn behind(&self, byte: u8, at: usize) -> Option<usize>
+        requires { Place self.now.bytes.now at }
+        ensures { Behind self.now.bytes.now byte at result }
+    {
+        if self.byte_at(at)? != byte {
+            return None;
         }
-        x = with_digit(x, digit);
-        at += 1;
+        Some(at + 1)
     }
-    DigitsRead {
-        end: at,
-        leaf: noted(x),
-    }
-}
 
-// Past the length that may stand at a place, which is not the first: there, if none stands there; 0 where a colon is
-// followed by none.
-pub fn length_end(text: &[&[u8]; 1], at: usize) -> usize
-    requires { (1 ≤ at) × Place (text_in text.now) at }
-    ensures { LengthEnds (length_in (drop at (text_in text.now))) (text_in text.now) at result }
-{
-    if byte_at(text, at) != COLON {
-        return at;
-    }
-    let whole = digits_from(text, at + 1).end;
-    if byte_at(text, whole) != POINT {
-        if whole == at + 1 {
-            return 0;
+    // The digits from a place on.
+    pub fn digits_from(&self, from: usize) -> DigitsRead
+        requires { Place self.now.bytes.now from }
+        ensures { DigitsEnd self.now.bytes.now from result.end result.leaf }
+    {
+        let mut leaf = Some(0);
+        for end in from..self.bytes.len() {
+            let digit = self.bytes[end];
+            if !digit.is_ascii_digit() {
+                return DigitsRead { end, leaf };
+            }
+            leaf = with_digit(leaf, digit);
         }
-        return whole;
+        DigitsRead {
+            end: self.bytes.len(),
+            leaf,
+        }
     }
-    let end = digits_from(text, whole + 1).end;
-    if end == at + 2 {
-        return 0;
+
+    // Past the length that may stand at a place, which is not the first: there, if none stands there; none where a
+    // colon is followed by no length.
+    pub fn length_end(&self, at: usize) -> Option<usize>
+        requires { (1 ≤ at) × Place self.now.bytes.now at }
+        ensures { LengthEnds (length_in (drop at self.now.bytes.now)) self.now.bytes.now at result }
+    {
+        let Some(from) = self.behind(b':', at) else {
+            return Some(at);
+        };
+        let whole = self.digits_from(from).end;
+        let Some(point) = self.behind(b'.', whole) else {
+            return (from < whole).then_some(whole);
+        };
+        let end = self.digits_from(point).end;
+        (from + 1 < end).then_some(end)
     }
-    end
 }

@@ -1,6 +1,5 @@
-// Newick text read into rows. The text is read once, from its first byte on, and what was read is noted in one array
-// (`specs/Notes.antt`), since it shows only at the end how many leaves there are; then the leaves are tested, and the
-// rows written.
+// Newick text read into rows. The text is read once, from its first byte on, and what was read is noted (`Notes`), since
+// it shows only at the end how many leaves there are; then the leaves are tested, and the rows written.
 #![tactic(auto)]
 
 mod digits;
@@ -9,6 +8,5 @@ mod once;
 mod readers;
 mod whole;
 
-pub use notes::{leaf_count, rows_out};
-pub use once::leaves_once;
+pub use notes::Notes;
 pub use whole::read_text;

@@ -3,35 +3,33 @@ ghost use Rattle.std.specs.Prelude.{◌≡◌, length, drop, replicate, ◌≤�
 ghost use Rattle.newick.specs.Reading.{is_end, text_read};
 ghost use Rattle.work_newick_reading.specs.Reads.{ReadsWhole};
 
-use crate::digits::{SEMICOLON, byte_at};
+use crate::digits::Text;
+use crate::notes::Notes;
 use crate::readers::subtree;
 
 // Whether nothing, or one line feed, stands from a place on.
-fn is_end(text: &[u8], at: usize) -> bool
-    requires { at ≤ length text.now }
-    ensures { result ≡ is_end (drop at text.now) }
+fn is_end(bytes: &[u8], at: usize) -> bool
+    requires { at ≤ length bytes.now }
+    ensures { result ≡ is_end (drop at bytes.now) }
 {
-    if at == text.len() {
-        return true;
+    match &bytes[at..] {
+        [] => true,
+        [byte] => *byte == b'\n',
+        _ => false,
     }
-    if at + 1 < text.len() {
-        return false;
-    }
-    text[at] == b'\n'
 }
 
 // Whether a text keeps the grammar. If it does, what it says is noted, where nothing was noted before.
-pub fn read_text(text: &[u8], notes: &mut [u16; 1025]) -> bool
+pub fn read_text(bytes: &[u8], notes: &mut Notes) -> bool
     requires { notes.old ≡ replicate 1025 0 }
-    ensures { ReadsWhole (text_read text.now) notes.old notes.new result }
+    ensures { ReadsWhole (text_read bytes.now) notes.old notes.new result }
 {
-    let texts = [text; 1];
-    let end = subtree(&texts, 0, notes);
-    if end == 0 {
+    let text = Text { bytes };
+    let Some(end) = subtree(&text, 0, notes) else {
         return false;
-    }
-    if byte_at(&texts, end) != SEMICOLON {
+    };
+    let Some(after) = text.behind(b';', end) else {
         return false;
-    }
-    is_end(text, end + 1)
+    };
+    is_end(bytes, after)
 }

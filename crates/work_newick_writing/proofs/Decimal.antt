@@ -6,7 +6,7 @@ use mathlib.Core.List.{[], ◌∷◌}
 use native.Mathlib.Decide.{dec_lt}
 use native.Mathlib.Omega.{arith}
 use borrow.Author.Tests.{lt-ltb, le-ltb}
-use lib.ListN.{length}
+use lib.ListN.{length, length-set}
 use Rattle.newick.specs.Writing.{decimal}
 
 module _ (a : ℕ) where
@@ -30,5 +30,7 @@ module _ (a : ℕ) where
       go (no h) (yes k) = rw (decimal_two (omega arith) k) (omega arith)
       go (no h) (no k) = rw (decimal_three (omega arith)) (omega arith)
 
--- the three, for `digits_of`
+-- the three, for `digits_of`; and for `write_leaf`, which stores them
 pub ruleset decimal_digits = (decimal_one, decimal_two, decimal_three)
+
+pub ruleset digits_stored = (decimal_digits, length-set)

@@ -1,14 +1,14 @@
 -- The walk's loop: what remains to be written is the text of one object, from one place on. Once a row's marks and one child's text are
 -- written, the other child's text remains.
-use Prim.Native.Nat.{ℕ, ◌+◌, ◌*◌, ◌≤◌, ◌<◌}
+use Prim.Native.Nat.{ℕ, ◌+◌, ◌-◌, ◌*◌, ◌≤◌, ◌<◌}
 use mathlib.Core.Path.{◌≡◌, sym, ap, ◌∙◌}
 use mathlib.Core.List.{List}
 use native.Mathlib.Omega.{arith}
-use lib.ListN.{length, length-set}
+use lib.ListN.{length, length-set, get_or}
 use lib.Seq.{sets, length-sets}
 use Rattle.newick.specs.Writing.{decimal}
 use Rattle.work_trees.specs.Rows.{size, object_of, GoodRows}
-use Rattle.work_trees.proofs.Walked.{upper_of, lower_of, upper-falls, lower-falls}
+use Rattle.work_trees.proofs.Walked.{upper-falls, lower-falls}
 use Rattle.work_newick_writing.specs.Counts.{written}
 use Rattle.work_newick_writing.proofs.Written.{grouped, length_grouped, leaf-written, object-written}
 use Rattle.work_newick_writing.proofs.Marks.{marked, first_then_second, second_then_first}
@@ -29,13 +29,13 @@ module _ {T out₀ : List ℕ} {top from : ℕ} {out : List ℕ} {obj at : ℕ} 
   pub remains_leaf : obj ≤ size T → sets out at (decimal obj) ≡ sets out₀ from (written (object_of T top))
   remains_leaf h = rw (leaf-written good obj h) at r.makes
 
-  -- a row's object
-  module _ (above : size T < obj) (below : obj < 2 * size T) where
+  -- a row's object, and its row's two entries by the place that the code reads
+  module _ (above : size T < obj) (below : obj < 2 * size T) {k : ℕ} (place : k ≡ obj - size T - 1) where
     abbrev pub a : ℕ
-    a = upper_of T good obj above below
+    a = get_or T (2 * k) 0
 
     abbrev pub b : ℕ
-    b = lower_of T good obj above below
+    b = get_or T (2 * k + 1) 0
 
     abbrev pub A : List ℕ
     A = written (object_of T a)
@@ -43,19 +43,25 @@ module _ {T out₀ : List ℕ} {top from : ℕ} {out : List ℕ} {obj at : ℕ} 
     abbrev pub B : List ℕ
     B = written (object_of T b)
 
+    is-grouped : written (object_of T obj) ≡ grouped A B
+    is-grouped = rw place (object-written good obj above below)
+
+    pub falls : (a < obj) × (b < obj)
+    falls = rw place ((upper-falls T good obj above below).1, (lower-falls T good obj above below).1)
+
     pub room : at + (length A + length B + 3) ≤ length out
-    room = omega (arith, r.fits, ap length (object-written good obj above below) ∙ length_grouped A B)
+    room = omega (arith, r.fits, ap length is-grouped ∙ length_grouped A B)
 
     -- the whole text, in whichever order its parts are written
     whole : sets out at (grouped A B) ≡ sets out₀ from (written (object_of T top))
-    whole = rw (object-written good obj above below) at r.makes
+    whole = rw is-grouped at r.makes
 
     -- once the row's marks are written, with room for texts as long as its entries' are, and one entry's text
     module _ (first second : ℕ) (is-first : first ≡ length A) (is-second : second ≡ length B) (out' : List ℕ) where
       pub upper-done : out' ≡ sets (marked out at first second) (at + 1) A → Remains T out₀ top from out' b (at + 1 + first + 1)
       upper-done e =
           let long : length out' ≡ length out = ap length e ∙ simp (length-sets, length-set) in
-          let falls = lower-falls T good obj above below in
+          let less = falls in
           let most = r.most in
           record {
             most = omega arith;
@@ -66,7 +72,7 @@ module _ {T out₀ : List ℕ} {top from : ℕ} {out : List ℕ} {obj at : ℕ} 
       pub lower-done : out' ≡ sets (marked out at first second) (at + 1 + first + 1) B → Remains T out₀ top from out' a (at + 1)
       lower-done e =
           let long : length out' ≡ length out = ap length e ∙ simp (length-sets, length-set) in
-          let falls = upper-falls T good obj above below in
+          let less = falls in
           let most = r.most in
           record {
             most = omega arith;

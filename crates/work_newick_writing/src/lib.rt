@@ -5,5 +5,4 @@
 mod counting;
 mod writing;
 
-pub use counting::{count_text, text_length};
-pub use writing::write_text;
+pub use counting::{TreeText, count_text};

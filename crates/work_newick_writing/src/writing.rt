@@ -4,10 +4,10 @@
 ghost use Rattle.std.specs.Prelude.{◌≡◌, ◌+◌, ◌*◌, ◌≤◌, ◌<◌, [], length};
 ghost use Rattle.std.proofs.lemmas.List.Edits.{sets};
 ghost use Rattle.newick.specs.Writing.{decimal, sentence_of, text_of};
-ghost use Rattle.work_trees.specs.Rows.{GoodRows, size, object_of, tree_of};
-ghost use Rattle.work_newick_writing.specs.Counts.{TextCounts, written};
+ghost use Rattle.work_trees.specs.Rows.{size, object_of, tree_of};
+ghost use Rattle.work_newick_writing.specs.Counts.{written};
 
-use crate::counting::{bytes_under, text_length};
+use crate::counting::{TreeText, bytes_under};
 
 // The byte of a digit.
 fn digit(d: u16) -> u8
@@ -18,66 +18,68 @@ fn digit(d: u16) -> u8
 }
 
 // Writes the digits of a leaf's number into out from place `at` on.
+#[tactic(auto, using(crate::proofs::Decimal::digits_stored))]
 fn write_leaf(a: u16, out: &mut [u8], at: usize)
     requires { (a < 1000) × (at + length (decimal a) ≤ length out.old) }
     ensures { out.new ≡ sets out.old at (decimal a) }
 {
-    if a < 10 {
-        out[at] = digit(a);
-        return;
-    }
-    if a < 100 {
-        out[at] = digit(a / 10);
-        out[at + 1] = digit(a % 10);
-        return;
-    }
-    out[at] = digit(a / 100);
-    out[at + 1] = digit(a / 10 % 10);
-    out[at + 2] = digit(a % 10);
-}
-
-// Writes the text of object `top` into out from place `from` on. Of each row's object the parentheses and the comma are
-// written, then the shorter child's text; what is left is the other child's, which is next.
-fn walk(rows: &[u16; 1023], bytes: &[u16; 512], top: u16, out: &mut [u8], from: usize)
-    requires good_rows { GoodRows rows.now × TextCounts rows.now bytes.now }
-    requires top_bound { top < 2 * size rows.now }
-    requires top_in_bounds { from + length (written (object_of rows.now top)) ≤ length out.old }
-    ensures { out.new ≡ sets out.old from (written (object_of rows.now top)) }
-{
-    let n = rows[1022];
-    let mut obj = top;
-    let mut at = from;
-    while n < obj {
-        let i = obj as usize - n as usize - 1;
-        let a = rows[2 * i];
-        let b = rows[2 * i + 1];
-        let first = bytes_under(bytes, n, a) as usize;
-        let second = bytes_under(bytes, n, b) as usize;
-        let mid = at + 1 + first;
-        out[at] = b'(';
-        out[mid] = b',';
-        out[mid + 1 + second] = b')';
-        if first <= second {
-            walk(rows, bytes, a, out, at + 1);
-            obj = b;
-            at = mid + 1;
-        } else {
-            walk(rows, bytes, b, out, mid + 1);
-            obj = a;
-            at += 1;
+    match a {
+        0..=9 => out[at] = digit(a),
+        10..=99 => {
+            out[at] = digit(a / 10);
+            out[at + 1] = digit(a % 10);
+        }
+        _ => {
+            out[at] = digit(a / 100);
+            out[at + 1] = digit(a / 10 % 10);
+            out[at + 2] = digit(a % 10);
         }
     }
-    write_leaf(obj, out, at);
 }
 
-// Writes the tree's text into out's first places, and keeps the others as they are; `bytes` has the rows' counts.
-pub fn write_text(rows: &[u16; 1023], bytes: &[u16; 512], out: &mut [u8])
-    requires good_rows { GoodRows rows.now × TextCounts rows.now bytes.now }
-    requires rows_in_bounds { length (text_of (sentence_of [] (tree_of rows.now))) ≤ length out.old }
-    ensures { out.new
-        ≡ sets out.old 0 (text_of (sentence_of [] (tree_of rows.now))) }
-{
-    let n = rows[1022];
-    walk(rows, bytes, 2 * n - 1, out, 0);
-    out[text_length(rows, bytes) - 1] = b';';
+impl<'a> TreeText<'a> {
+    // Writes the text of object `top` into out from place `from` on. Of each row's object the parentheses and the comma
+    // are written, then the shorter child's text; what is left is the other child's, which is next.
+    fn walk(&self, top: u16, out: &mut [u8], from: usize)
+        requires top_bound { top < 2 * size self.now.rows.now }
+        requires top_in_bounds { from + length (written (object_of self.now.rows.now top))
+            ≤ length out.old }
+        ensures { out.new ≡ sets out.old from (written (object_of self.now.rows.now top)) }
+    {
+        let n = self.rows[1022];
+        let mut obj = top;
+        let mut at = from;
+        while n < obj {
+            let k = usize::from(obj - n - 1);
+            let a = self.rows[2 * k];
+            let b = self.rows[2 * k + 1];
+            let first = usize::from(bytes_under(self.bytes, n, a));
+            let second = usize::from(bytes_under(self.bytes, n, b));
+            let mid = at + 1 + first;
+            out[at] = b'(';
+            out[mid] = b',';
+            out[mid + 1 + second] = b')';
+            if first <= second {
+                self.walk(a, out, at + 1);
+                obj = b;
+                at = mid + 1;
+            } else {
+                self.walk(b, out, mid + 1);
+                obj = a;
+                at += 1;
+            }
+        }
+        write_leaf(obj, out, at);
+    }
+
+    // Writes the tree's text into out's first places, and keeps the others as they are.
+    pub fn write(&self, out: &mut [u8])
+        requires { length (text_of (sentence_of [] (tree_of self.now.rows.now))) ≤ length out.old }
+        ensures { out.new
+            ≡ sets out.old 0 (text_of (sentence_of [] (tree_of self.now.rows.now))) }
+    {
+        let n = self.rows[1022];
+        self.walk(2 * n - 1, out, 0);
+        out[self.length() - 1] = b';';
+    }
 }

@@ -1,42 +1,38 @@
-use Rattle.std.proofs.Common.{arith, ◌+◌, ◌<◌, ◌≤◌}
+use Rattle.std.proofs.Common.{arith, ◌+◌, ◌<◌}
 use Rattle.work_trees.specs.Rows.{size}
-use Rattle.work_trees.proofs.LeafCounts.{first_below, second_below}
-use Rattle.work_newick_writing.proofs.Counted.{counted-more, counted-all, both_most}
-use Rattle.work_newick_writing.proofs.counting.count_text.Goals.{After-bytes_under-b, In-loop-i}
+use Rattle.work_newick_writing.proofs.Counted.{both_most, counted-all, counted-more, entries_below}
+use Rattle.work_newick_writing.proofs.counting.count_text.Goals.{In-loop-k}
 use Rattle.work_newick_writing.proofs.counting.count_text.Goals as goal
 
-row_below : (c : In-loop-i) → c.loop-i.i < size c.args.rows.now
+row_below : (c : In-loop-k) → c.loop-k.k + 1 < size c.args.rows.now
 row_below c = omega arith
-
-row-most : (c : After-bytes_under-b) →
-    c.bytes_under-a.result + c.bytes_under-b.result + 3 ≤ 3069
-row-most c =
-    let h : c.loop-i.i < size c.args.rows.now = omega arith in
-    both_most c.requires.0 c.loop-i.invariant h c.bytes_under-a.ensures
-    c.bytes_under-b.ensures
 
 pub bytes_under-a-requires : goal.bytes_under-a-requires
 bytes_under-a-requires c =
     let g = c.requires.0 in
-    let h = row_below (goal.at.bytes_under-a-requires c).In-loop-i in
-    (g.some, g.most, omega (arith, first_below c.args.rows.now g c.loop-i.i c.loop-i.invariant.from h))
+    (g.some, g.most, (entries_below _ g (row_below (goal.at.bytes_under-a-requires c).In-loop-k)).0)
 
 pub bytes_under-b-requires : goal.bytes_under-b-requires
 bytes_under-b-requires c =
     let g = c.requires.0 in
-    let h = row_below (goal.at.bytes_under-b-requires c).In-loop-i in
-    (g.some, g.most, omega (arith, second_below c.args.rows.now g c.loop-i.i c.loop-i.invariant.from h))
+    (g.some, g.most, (entries_below _ g (row_below (goal.at.bytes_under-b-requires c).In-loop-k)).1)
+
+pub overflow_add-bytes-in-loop-k : goal.overflow_add-bytes-in-loop-k
+overflow_add-bytes-in-loop-k c =
+    let below = row_below (goal.at.overflow_add-bytes-in-loop-k c).In-loop-k in
+    let most = both_most _ c.requires.0 c.loop-k.invariant below c.bytes_under-a.ensures c.bytes_under-b.ensures in
+    record { fits = omega arith }
 
 pub overflow_add-bytes : goal.overflow_add-bytes
-overflow_add-bytes c = omega (arith, row-most c)
+overflow_add-bytes c =
+    let below = row_below (goal.at.overflow_add-bytes c).In-loop-k in
+    let most = both_most _ c.requires.0 c.loop-k.invariant below c.bytes_under-a.ensures c.bytes_under-b.ensures in
+    record { fits = omega arith }
 
-pub overflow_add-bytes-in-loop-i : goal.overflow_add-bytes-in-loop-i
-overflow_add-bytes-in-loop-i c = omega (arith, row-most c)
-
-pub loop-i-preserved : goal.loop-i-preserved
-loop-i-preserved c =
-    counted-more c.requires.0 c.loop-i.invariant (row_below (goal.at.loop-i-preserved c).In-loop-i) c.bytes_under-a.ensures
-    c.bytes_under-b.ensures
+pub loop-k-preserved : goal.loop-k-preserved
+loop-k-preserved c =
+    let below = row_below (goal.at.loop-k-preserved c).In-loop-k in
+    counted-more _ c.requires.0 c.loop-k.invariant below c.bytes_under-a.ensures c.bytes_under-b.ensures
 
 pub returns : goal.returns
-returns c = counted-all c.loop-i.invariant c.loop-i-test.false
+returns c = counted-all c.loop-k.invariant (omega arith)
