@@ -1,4 +1,4 @@
-use Rattle.std.proofs.Common.{ap, arith, get_or, get_or-take, length-take, refl, set, sub-one, take, ℕ, ◌<◌, ◌∙◌, ◌≡◌}
+use Rattle.std.proofs.Common.{ap, arith, get_or, get_or-take, length-take, set, sub-one, take, ℕ, ◌<◌, ◌∙◌, ◌≡◌}
 use Rattle.work_places.specs.Arrays.{Leaf, at}
 use Rattle.work_places.proofs.Arrays.{each_entry, along-all, along-next, along-more}
 use Rattle.work_places.proofs.leaves.entries_along.Goals.{After-from}
@@ -18,9 +18,6 @@ leaf c =
     let i = c.loop-a.a-index in
     let inside : i < a.n = omega (arith, c.loop-a-test.true, length-take a.n a.list.now) in
     rw (is c, get_or-take a.n a.list.now i 0 inside) (each_entry (Leaf 512) a.list.now a.n i c.requires.1 c.requires.2 inside)
-
-pub loop-a-init : goal.loop-a-init
-loop-a-init c = refl
 
 pub overflow_sub-a : goal.overflow_sub-a
 overflow_sub-a c = (leaf c).0
