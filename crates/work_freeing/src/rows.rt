@@ -50,7 +50,12 @@ pub fn free_rows(
         let at = from[a];
         let first = leaves_under(many, leaves, a);
         let second = leaves_under(many, leaves, b);
-        let count = own_crossings(&seen, usize::from(at), usize::from(first), usize::from(second));
+        let count = own_crossings(
+            &seen,
+            usize::from(at),
+            usize::from(first),
+            usize::from(second),
+        );
         let other = u32::from(first) * u32::from(second) - count;
         from[leaves + row] = at;
         before += count;

@@ -41,4 +41,5 @@ AtHand side l r = OrderAtHand side l.rows.now l.order.now r.rows.now r.order.now
 -- One of two sides freed: the counts before and after, and both sides afterwards.
 abbrev pub Freed : OneSide → OneSide → List ℕ → Side → ℕ → ℕ → OneSide → OneSide → Type 0
 Freed l r links side before after l' r' =
-    SideFreed (tree_in l) (tree_in r) (size l.rows.now) links side (layouts_in l r) before after l'.rows.now l'.lay.now r'.rows.now r'.lay.now
+    SideFreed (tree_in l) (tree_in r) (size l.rows.now) links side (layouts_in l r) before after l'.rows.now l'.lay.now r'.rows.now
+    r'.lay.now

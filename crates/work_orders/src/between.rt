@@ -1,4 +1,6 @@
 // The crossings between two orders, counted two ways, and the displacement of their links.
+// No struct holds the links, the orders and n: a caller fills the arrays and asks once, so that it would be made and
+// taken apart at once.
 ghost use Rattle.std.specs.Prelude.{◌≡◌, take};
 ghost use Rattle.tanglegram.specs.Crossings.{count, end};
 ghost use Rattle.tanglegram.specs.Entanglement.{displacement};

@@ -12,12 +12,6 @@ told : (lay : List ℕ) (row count other : ℕ) {r b : Bool} → r ≡ turns_ove
     turns_over (byte lay row) count other ≡ b
 told lay row count other e h = ap (λ k. turns_over (get_or lay k 0) count other) (sym (sub-one row)) ∙ sym e ∙ h
 
-pub returns-then-not-turns_over : goal.returns-then-not-turns_over
-returns-then-not-turns_over c =
-    let a = c.args in
-    let g = told a.lay.now a.row a.count a.other c.turns_over.ensures c.if-not-turns_over.true in
-    record { answers = rw g refl; rows = rw g refl; bytes = rw g refl }
-
 -- the row's two entries change places
 swapped : (W : List ℕ) (row : ℕ) → 1 ≤ row → row ≤ 511 → length W ≡ 1023 → swap W (2 * row - 2) (2 * row - 1) ≡ exchanged_at W row
 swapped W row from most long =

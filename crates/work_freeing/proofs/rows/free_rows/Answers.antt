@@ -1,4 +1,4 @@
-use Rattle.std.proofs.Common.{List, ap, arith, get_or, length, map, pred, refl, take, ℕ, ◌*◌, ◌+◌, ◌-◌, ◌<◌, ◌∙◌, ◌≡◌, ◌≤◌}
+use Rattle.std.proofs.Common.{List, ap, arith, get_or, length, map, pred, take, ℕ, ◌*◌, ◌+◌, ◌-◌, ◌<◌, ◌∙◌, ◌≡◌, ◌≤◌}
 use Rattle.tanglegram.specs.Crossings.{inverted}
 use Rattle.tanglegram.specs.Lists.{place}
 use Rattle.tanglegram.specs.Tree.{leaves}
@@ -52,27 +52,6 @@ second-entry c =
     c.from-b.ensures ∙ ap (λ k. get_or c.loop-row.rows k 0) (lower-place row c.loop-row.invariant.0.from)
     ∙ c.loop-row.invariant.0.kept-rows (2 * pred row + 1) (omega arith)
 
--- so they are objects made before
-first_below : (c : After-from-b) → c.from-a.result < 2 * size c.args.rows.now
-first_below c =
-    let below = row_below c in
-    let rule = c.requires.good_rows.0.rule c.loop-row.row c.loop-row.invariant.0.from below in
-    omega (arith, first_entry c)
-
-second_below : (c : After-from-b) → c.from-b.result < 2 * size c.args.rows.now
-second_below c =
-    let below = row_below c in
-    let rule = c.requires.good_rows.0.rule c.loop-row.row c.loop-row.invariant.0.from below in
-    omega (arith, second-entry c)
-
-first-index : (c : After-from-b) → c.from-a.result < 1024
-first-index c = let most = c.requires.good_rows.0.most in omega (arith, first_below c)
-
--- as `leaves_under` asks
-object-below : (c : After-from-b) {o : ℕ} → o < 2 * size c.args.rows.now → let n = c.from-leaves.result in
-    (1 ≤ n) × (n ≤ 512) × (o < 2 * n)
-object-below c h = let g = c.requires.good_rows.0 in rw c.from-leaves.ensures (g.some, g.most, h)
-
 -- where the far places under its two children stand, once the second one's leaves are counted too
 parts-here : (c : After-leaves_under-first) {second : ℕ} → second ≡ count_of c.args.many.now c.from-leaves.result c.from-b.result →
     ChildrenStand c.args.far.now c.args.rows.now c.entries_along.new.list c.loop-row.row
@@ -86,7 +65,8 @@ parts-here c e =
     let inv = l.invariant.0 in
     let n = inv.long in
     let below : l.row < size T = omega arith in
-    let first = c.from-a.ensures ∙ ap (λ k. get_or l.rows k 0) (upper-place l.row inv.from) ∙ inv.kept-rows (2 * pred l.row) (omega arith) in
+    let first = c.from-a.ensures ∙ ap (λ k. get_or l.rows k 0) (upper-place l.row inv.from)
+    ∙ inv.kept-rows (2 * pred l.row) (omega arith) in
     let second = c.from-b.ensures ∙ ap (λ k. get_or l.rows k 0) (lower-place l.row inv.from)
     ∙ inv.kept-rows (2 * pred l.row + 1) (omega arith) in
     let along = rw c.from-leaves.ensures at c.entries_along.ensures in
@@ -98,9 +78,6 @@ parts-here c e =
     (rw c.from-leaves.ensures at c.leaves_under-first.ensures) (rw c.from-leaves.ensures at e)
 
 -- ---- the goals
-
-pub note_places-requires : goal.note_places-requires
-note_places-requires c = (c.requires.good_rows.0.most, c.requires.leaf_counts.1.long, refl)
 
 pub entries_along-requires : goal.entries_along-requires
 entries_along-requires c =
@@ -121,20 +98,6 @@ loop-row-init c =
           c.args.many.now p.ensures.at_len places,
     )
 
-pub offset_bounds-from-a : goal.offset_bounds-from-a
-offset_bounds-from-a c = omega (arith, first-index c)
-
-pub bounds-from-a : goal.bounds-from-a
-bounds-from-a c = first-index c
-
-pub leaves_under-first-requires : goal.leaves_under-first-requires
-leaves_under-first-requires c = object-below c (first_below c)
-
-pub leaves_under-second-requires : goal.leaves_under-second-requires
-leaves_under-second-requires c =
-    let w = (goal.at.leaves_under-second-requires c).After-from-b in
-    object-below w (second_below w)
-
 pub own_crossings-count-requires : goal.own_crossings-count-requires
 own_crossings-count-requires c =
     let p = parts-here (goal.at.own_crossings-count-requires c).After-leaves_under-first c.leaves_under-second.ensures in
@@ -154,11 +117,6 @@ own-here c p =
     own-told p c.from.ensures c.from-in-loop-row.ensures
     c.from-in-loop-row-2.ensures c.from-in-loop-row-3.ensures c.from-in-loop-row-4.ensures c.own_crossings-count.ensures
 
-pub overflow_mul-other : goal.overflow_mul-other
-overflow_mul-other c =
-    let p = parts-here (goal.at.overflow_mul-other c).After-leaves_under-first c.leaves_under-second.ensures in
-    rw (c.from-in-loop-row-3.ensures, c.from-in-loop-row-4.ensures) (omega (arith, p.few))
-
 pub overflow_sub-other : goal.overflow_sub-other
 overflow_sub-other c =
     let p = parts-here (goal.at.overflow_sub-other c).After-leaves_under-first c.leaves_under-second.ensures in
@@ -172,13 +130,6 @@ overflow_add-before c =
     let own = own-here (goal.at.overflow_add-before c).After-from-in-loop-row-4 p in
     let below = row_below (goal.at.overflow_add-before c).After-from-b in
     omega (arith, below, c.loop-row.invariant.0.before_few, own.few)
-
-pub decide-after-requires : goal.decide-after-requires
-decide-after-requires c =
-    let most = c.requires.good_rows.0.most in
-    let n = c.loop-row.invariant.0.long in
-    let below = row_below (goal.at.decide-after-requires c).After-from-b in
-    (c.loop-row.invariant.0.from, omega arith, omega (arith, below))
 
 pub overflow_add-after : goal.overflow_add-after
 overflow_add-after c =

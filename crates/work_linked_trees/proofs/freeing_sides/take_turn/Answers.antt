@@ -12,13 +12,3 @@ returns-in-Right-clause-side_freed c =
     let m = c.requires.in_memory in
     let k = c.free_one-in-Right.ensures.kept.1 in
     rw (c.in-Right.is, k.rows, k.lay) (right-freed m (rw (c.in-Right.is, m.right_side.sized) at c.free_one-in-Right.ensures.rows_freed))
-
-pub returns-in-Left-clause-order_at_hand_2 : goal.returns-in-Left-clause-order_at_hand_2
-returns-in-Left-clause-order_at_hand_2 c =
-    let f = c.free_one.ensures in
-    rw (c.in-Left.is, f.kept.1.rows) f.in_order_2
-
-pub returns-in-Right-clause-order_at_hand_2 : goal.returns-in-Right-clause-order_at_hand_2
-returns-in-Right-clause-order_at_hand_2 c =
-    let f = c.free_one-in-Right.ensures in
-    rw (c.in-Right.is, f.kept.1.rows) f.in_order_2

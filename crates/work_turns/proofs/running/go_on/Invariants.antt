@@ -12,10 +12,12 @@ invariant-loop-taken l =
     let u = tree_in l.initial.right in
     let n = size l.initial.left.rows.now in
     let T = here t u n l.links in
+    let first = layouts_in l.initial.left l.initial.right in
+    let now = layouts_in l.left l.right in
     record {
       in_memory : InMemory t u n l.links l.left.rows.now l.left.lay.now l.right.rows.now l.right.lay.now;
       at_hand : AtHand l.side l.left l.right;
       left_arrays : SameArrays l.initial.left l.left;
       right_arrays : SameArrays l.initial.right l.right;
-      run : RunUnderWay (crossings T) (free T) l.allowance (layouts_in l.initial.left l.initial.right) (layouts_in l.left l.right) l.last l.taken l.side;
+      run : RunUnderWay (crossings T) (free T) l.allowance first now l.last l.taken l.side;
     }

@@ -1,5 +1,4 @@
 -- `fill`: the places in the left order are those of the near ends, and the far ends come after them.
-use Rattle.std.proofs.Common.{refl}
 use Rattle.work_places.proofs.Has.{filled-has}
 use Rattle.work_orders.proofs.between.Places.fill.Goals as goal
 
