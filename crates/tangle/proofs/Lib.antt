@@ -1,4 +1,3 @@
 pub mod Widened
-pub mod Cases
 pub mod Outcomes
 pub mod RowsForC

@@ -13,11 +13,7 @@ use calls_hand_entries::hand_entries::HandEntry;
 pub extern "C" fn tangle_hold(s: &mut [u8], letter: u32) -> TangleRefusal
     ensures { SetsHoldForC s.old letter result s.new }
 {
-    let refusal = record::set_hold(s, in_8_bits(letter));
-    TangleRefusal {
-        refusal: refusal.number as u32,
-        row: refusal.row as u32,
-    }
+    record::set_hold(s, in_8_bits(letter)).into()
 }
 
 // Pins a row of a side of any bytes, or unpins it where `pin` is 0: that row's layout byte; or the refusal, and no
@@ -26,11 +22,7 @@ pub extern "C" fn tangle_hold(s: &mut [u8], letter: u32) -> TangleRefusal
 pub extern "C" fn tangle_pin(s: &mut [u8], side: u32, row: u32, pin: u32) -> TangleRefusal
     ensures { PinsForC s.old side row pin result s.new }
 {
-    let refusal = calls_pins::pin(s, in_16_bits(side), in_16_bits(row), pin != 0);
-    TangleRefusal {
-        refusal: refusal.number as u32,
-        row: refusal.row as u32,
-    }
+    calls_pins::pin(s, in_16_bits(side), in_16_bits(row), pin != 0).into()
 }
 
 // Frees a side of any bytes: the counts, and the layout bytes of that side; or the refusal, and no byte.
@@ -38,13 +30,7 @@ pub extern "C" fn tangle_pin(s: &mut [u8], side: u32, row: u32, pin: u32) -> Tan
 pub extern "C" fn tangle_free(s: &mut [u8], side: u32) -> TangleFree
     ensures { FreesForC s.old side result s.new }
 {
-    let freed = calls_turns::free(s, in_16_bits(side));
-    TangleFree {
-        refusal: freed.refusal.number as u32,
-        row: freed.refusal.row as u32,
-        before: freed.before,
-        after: freed.after,
-    }
+    calls_turns::free(s, in_16_bits(side)).into()
 }
 
 // Runs any bytes under an allowance: the five numbers, and the layout bytes; or the refusal, and no byte.
@@ -52,15 +38,7 @@ pub extern "C" fn tangle_free(s: &mut [u8], side: u32) -> TangleFree
 pub extern "C" fn tangle_run(s: &mut [u8], allowance: u32) -> TangleRun
     ensures { RunsForC s.old allowance result s.new }
 {
-    let ran = calls_turns::run(s, allowance);
-    TangleRun {
-        refusal: ran.refusal.number as u32,
-        row: ran.refusal.row as u32,
-        first: ran.first,
-        last: ran.last,
-        turns: ran.turns,
-        settled: ran.settled,
-    }
+    calls_turns::run(s, allowance).into()
 }
 
 // Turns the rows of a hand list over in any bytes, entry after entry; or the refusal, and no byte.
@@ -68,9 +46,5 @@ pub extern "C" fn tangle_run(s: &mut [u8], allowance: u32) -> TangleRun
 pub extern "C" fn tangle_hands(s: &mut [u8], list: &[HandEntry]) -> TangleRefusal
     ensures { HandsForC s.old (map hand_in list.now) result s.new }
 {
-    let refusal = calls_hand_entries::hands_named(s, list);
-    TangleRefusal {
-        refusal: refusal.number as u32,
-        row: refusal.row as u32,
-    }
+    calls_hand_entries::hands_named(s, list).into()
 }

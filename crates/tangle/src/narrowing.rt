@@ -6,18 +6,12 @@ ghost use Rattle.tangle.specs.Narrowed.{Narrowed};
 pub fn in_16_bits(x: u32) -> u16
     ensures { Narrowed 65536 x result }
 {
-    if 65535 < x {
-        return 0;
-    }
-    x as u16
+    u16::try_from(x).unwrap_or(0)
 }
 
 // x, or 0 where it does not fit 8 bits.
 pub fn in_8_bits(x: u32) -> u8
     ensures { Narrowed 256 x result }
 {
-    if 255 < x {
-        return 0;
-    }
-    x as u8
+    u8::try_from(x).unwrap_or(0)
 }

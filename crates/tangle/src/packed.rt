@@ -31,7 +31,7 @@ pub extern "C" fn tangle_pack(
         result
         out.new }
 {
-    let refusal = record_packing::pack(
+    record_packing::pack(
         in_8_bits(hold),
         in_16_bits(n),
         left,
@@ -40,11 +40,8 @@ pub extern "C" fn tangle_pack(
         leftlayout,
         rightlayout,
         out,
-    );
-    TangleRefusal {
-        refusal: refusal.number as u32,
-        row: refusal.row as u32,
-    }
+    )
+    .into()
 }
 
 // A record's parts, each into the first places of its buffer, its hold and n; or the refusal, and the buffers as they
@@ -72,11 +69,5 @@ pub extern "C" fn tangle_unpack(
         leftlayout.new
         rightlayout.new }
 {
-    let unpacked = record_unpacking::unpack(s, left, right, links, leftlayout, rightlayout);
-    TangleUnpack {
-        refusal: unpacked.refusal.number as u32,
-        row: unpacked.refusal.row as u32,
-        hold: unpacked.hold as u32,
-        n: unpacked.n as u32,
-    }
+    record_unpacking::unpack(s, left, right, links, leftlayout, rightlayout).into()
 }

@@ -10,13 +10,7 @@ use crate::narrowing::in_16_bits;
 pub extern "C" fn tangle_better(s: &[u8], side: u32, first: &[u16], second: &[u16]) -> TangleBetter
     ensures { ComparesForC s.now side first.now second.now result }
 {
-    let compared = calls_better::compare(s, in_16_bits(side), first, second);
-    TangleBetter {
-        refusal: compared.refusal.number as u32,
-        row: compared.refusal.row as u32,
-        which: compared.which as u32,
-        length: compared.length as u32,
-    }
+    calls_better::compare(s, in_16_bits(side), first, second).into()
 }
 
 // The refusal that better of the two answers, and nothing counted.
@@ -29,11 +23,7 @@ pub extern "C" fn tangle_better_check(
 ) -> TangleRefusal
     ensures { BetterChecksForC s.now side first.now second.now result }
 {
-    let refusal = calls_better::better_check(s, in_16_bits(side), first, second);
-    TangleRefusal {
-        refusal: refusal.number as u32,
-        row: refusal.row as u32,
-    }
+    calls_better::better_check(s, in_16_bits(side), first, second).into()
 }
 
 // Takes in an order for a side of any bytes: its layout bytes, into the first places of a buffer, its count, and
@@ -42,11 +32,5 @@ pub extern "C" fn tangle_better_check(
 pub extern "C" fn tangle_take_in(s: &[u8], side: u32, xs: &[u16], out: &mut [u8]) -> TangleTakeIn
     ensures { TakesInForC s.now side xs.now out.old result out.new }
 {
-    let taken = calls_take_in::take_in(s, in_16_bits(side), xs, out);
-    TangleTakeIn {
-        refusal: taken.refusal.number as u32,
-        row: taken.refusal.row as u32,
-        count: taken.count,
-        least: taken.least,
-    }
+    calls_take_in::take_in(s, in_16_bits(side), xs, out).into()
 }

@@ -11,11 +11,7 @@ use crate::narrowing::in_16_bits;
 pub extern "C" fn tangle_merge_read(n: u32, table: &[i32], out: &mut [u16]) -> TangleRefusal
     ensures { MergeReadsForC n table.now out.old result out.new }
 {
-    let refusal = calls_merge::merge_read(in_16_bits(n), table, out);
-    TangleRefusal {
-        refusal: refusal.number as u32,
-        row: refusal.row as u32,
-    }
+    calls_merge::merge_read(in_16_bits(n), table, out).into()
 }
 
 // The table of a side of any bytes, into the first places of a buffer; or the refusal, and the buffer as it was.
@@ -23,9 +19,5 @@ pub extern "C" fn tangle_merge_read(n: u32, table: &[i32], out: &mut [u16]) -> T
 pub extern "C" fn tangle_merge_write(s: &[u8], side: u32, out: &mut [i32]) -> TangleRefusal
     ensures { MergeWritesForC s.now side out.old result out.new }
 {
-    let refusal = calls_merge::merge_write(s, in_16_bits(side), out);
-    TangleRefusal {
-        refusal: refusal.number as u32,
-        row: refusal.row as u32,
-    }
+    calls_merge::merge_write(s, in_16_bits(side), out).into()
 }

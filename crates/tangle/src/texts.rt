@@ -10,12 +10,7 @@ use crate::narrowing::in_16_bits;
 pub extern "C" fn tangle_newick_read(text: &[u8], out: &mut [u16]) -> TangleNewickRead
     ensures { NewickReadsForC text.now out.old result out.new }
 {
-    let read = calls_newick::newick_read(text, out);
-    TangleNewickRead {
-        refusal: read.refusal.number as u32,
-        row: read.refusal.row as u32,
-        n: read.n as u32,
-    }
+    calls_newick::newick_read(text, out).into()
 }
 
 // The text of a side of any bytes, into the first places of a buffer, and its length; or the refusal, and the buffer
@@ -24,10 +19,5 @@ pub extern "C" fn tangle_newick_read(text: &[u8], out: &mut [u16]) -> TangleNewi
 pub extern "C" fn tangle_newick_write(s: &[u8], side: u32, out: &mut [u8]) -> TangleNewickWrite
     ensures { NewickWritesForC s.now side out.old result out.new }
 {
-    let written = calls_newick::newick_write(s, in_16_bits(side), out);
-    TangleNewickWrite {
-        refusal: written.refusal.number as u32,
-        row: written.refusal.row as u32,
-        length: written.length as u32,
-    }
+    calls_newick::newick_write(s, in_16_bits(side), out).into()
 }

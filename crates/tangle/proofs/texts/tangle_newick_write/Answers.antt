@@ -1,12 +1,12 @@
 -- `tangle_newick_write`: the text of the narrow number of a side is that of the wide one.
-use Rattle.std.proofs.Common.{refl}
+use Rattle.calls_newick.specs.Answers.{written_as}
 use Rattle.tangle.proofs.Widened.{newick-write_wide}
 use Rattle.tangle.proofs.texts.tangle_newick_write.Goals as goal
 
 pub returns : goal.returns
 returns c =
     record {
-      given = c.newick_write-written.result;
-      called = newick-write_wide c.in_16_bits.ensures c.newick_write-written.ensures;
-      answers = refl;
+      given = written_as c.newick_write.result;
+      called = newick-write_wide c.in_16_bits.ensures c.newick_write.ensures;
+      answers = c.into.ensures;
     }
