@@ -1,12 +1,11 @@
 -- The calls of the desk: the name of each, how many words its line has, and which of them says the bytes that it is lent.
-use Rattle.std.specs.Prelude.{ℕ, cond, List, [], ◌∷◌, eqb, get_or}
-use Rattle.std.proofs.Math.Option.{Option, some}
+use Rattle.std.specs.Prelude.{ℕ, List, [], ◌∷◌, slice_get, Option, None, Some}
 use Rattle.desk_words.specs.Words.{place_of, word_in}
 use Rattle.desk_words.specs.Bytes.{bytes_in}
 use Rattle.desk.specs.declared.calls.Call.{Call}
 use Rattle.desk.specs.declared.calls.Call.TheVariants.{Check, Order, Count, Pairs, SquaredEntanglement, Thousandths}
 use Rattle.desk.specs.declared.calls.Call.TheVariants.{Free, Run, Hands, Better, BetterCheck, Hold, Pack, Unpack}
-use Rattle.desk.specs.declared.calls.Call.TheVariants.{NewickRead, NewickWrite, MergeRead, MergeWrite, Pin, TakeIn, NoCall}
+use Rattle.desk.specs.declared.calls.Call.TheVariants.{NewickRead, NewickWrite, MergeRead, MergeWrite, Pin, TakeIn}
 
 -- The names, as bytes: check, order, count, pairs, squared_entanglement, thousandths, free, run,
 -- hands, better, better_check, hold, pack, unpack,
@@ -40,9 +39,9 @@ unfoldable pub calls : List Call
 calls = Check ∷ Order ∷ Count ∷ Pairs ∷ SquaredEntanglement ∷ Thousandths ∷ Free ∷ Run ∷
     Hands ∷ Better ∷ BetterCheck ∷ Hold ∷ Pack ∷ Unpack ∷ NewickRead ∷ NewickWrite ∷ MergeRead ∷ MergeWrite ∷ Pin ∷ TakeIn ∷ []
 
--- The call of a name.
-unfoldable pub call_named : List ℕ → Call
-call_named name = get_or calls (place_of name names) NoCall
+-- The call of a name; none where it is none of them.
+unfoldable pub call_named : List ℕ → Option Call
+call_named name = slice_get calls (place_of name names)
 
 -- How many words its line has, its name among them.
 unfoldable pub words_of : Call → ℕ
@@ -66,32 +65,35 @@ words_of MergeRead = 4
 words_of MergeWrite = 4
 words_of Pin = 5
 words_of TakeIn = 5
-words_of NoCall = 0
 
--- Which of them says the bytes that it is lent; the name, number 0, where it is lent none.
-unfoldable pub lent_by : Call → ℕ
-lent_by Check = 1
-lent_by Order = 1
-lent_by Count = 1
-lent_by Pairs = 1
-lent_by SquaredEntanglement = 1
-lent_by Thousandths = 1
-lent_by Free = 1
-lent_by Run = 1
-lent_by Hands = 1
-lent_by Better = 1
-lent_by BetterCheck = 1
-lent_by Hold = 1
-lent_by Pack = 8
-lent_by Unpack = 1
-lent_by NewickRead = 1
-lent_by NewickWrite = 1
-lent_by MergeRead = 0
-lent_by MergeWrite = 1
-lent_by Pin = 1
-lent_by TakeIn = 1
-lent_by NoCall = 1
+-- Which of them says the bytes that it is lent; none where it is lent none.
+unfoldable pub lent_by : Call → Option ℕ
+lent_by Check = Some 1
+lent_by Order = Some 1
+lent_by Count = Some 1
+lent_by Pairs = Some 1
+lent_by SquaredEntanglement = Some 1
+lent_by Thousandths = Some 1
+lent_by Free = Some 1
+lent_by Run = Some 1
+lent_by Hands = Some 1
+lent_by Better = Some 1
+lent_by BetterCheck = Some 1
+lent_by Hold = Some 1
+lent_by Pack = Some 8
+lent_by Unpack = Some 1
+lent_by NewickRead = Some 1
+lent_by NewickWrite = Some 1
+lent_by MergeRead = None
+lent_by MergeWrite = Some 1
+lent_by Pin = Some 1
+lent_by TakeIn = Some 1
+
+-- The bytes that a word of a line says, and none where no word says any.
+abbrev pub said_at : Option ℕ → List ℕ → Option (List ℕ)
+said_at None line = Some []
+said_at (Some k) line = bytes_in (word_in line k)
 
 -- The bytes that a line says its call is lent.
 unfoldable pub lent_in : Call → List ℕ → Option (List ℕ)
-lent_in call line = cond (eqb (lent_by call) 0) (some []) (bytes_in (word_in line (lent_by call)))
+lent_in call line = said_at (lent_by call) line

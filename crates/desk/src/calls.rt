@@ -4,7 +4,7 @@ ghost use Rattle.desk.specs.Calls.{call_named, words_of, lent_by};
 
 use desk_words::words::place;
 
-#[derive(Clone, Copy)]
+#[derive(Clone, Copy, Debug, PartialEq, Eq)]
 pub enum Call {
     Check,
     Order,
@@ -26,39 +26,41 @@ pub enum Call {
     MergeWrite,
     Pin,
     TakeIn,
-    NoCall,
 }
 
-// The call of a name.
-pub fn named(name: &[u8]) -> Call
+// The calls in the order of their names.
+const CALLS: [Call; 20] = [
+    Call::Check,
+    Call::Order,
+    Call::Count,
+    Call::Pairs,
+    Call::SquaredEntanglement,
+    Call::Thousandths,
+    Call::Free,
+    Call::Run,
+    Call::Hands,
+    Call::Better,
+    Call::BetterCheck,
+    Call::Hold,
+    Call::Pack,
+    Call::Unpack,
+    Call::NewickRead,
+    Call::NewickWrite,
+    Call::MergeRead,
+    Call::MergeWrite,
+    Call::Pin,
+    Call::TakeIn,
+];
+
+// The call of a name, if it is one of the names.
+pub fn named(name: &[u8]) -> Option<Call>
     ensures { result ≡ call_named name.now }
 {
     let names =
         b"check order count pairs squared_entanglement thousandths free run hands better better_check hold pack unpack \
           newick_read newick_write merge_read merge_write pin take_in";
-    match place(names, name) {
-        0 => Call::Check,
-        1 => Call::Order,
-        2 => Call::Count,
-        3 => Call::Pairs,
-        4 => Call::SquaredEntanglement,
-        5 => Call::Thousandths,
-        6 => Call::Free,
-        7 => Call::Run,
-        8 => Call::Hands,
-        9 => Call::Better,
-        10 => Call::BetterCheck,
-        11 => Call::Hold,
-        12 => Call::Pack,
-        13 => Call::Unpack,
-        14 => Call::NewickRead,
-        15 => Call::NewickWrite,
-        16 => Call::MergeRead,
-        17 => Call::MergeWrite,
-        18 => Call::Pin,
-        19 => Call::TakeIn,
-        _ => Call::NoCall,
-    }
+    let k = place(names, name)?;
+    Some(CALLS[k])
 }
 
 // How many words a line of a call has, its name among them.
@@ -87,19 +89,18 @@ pub fn words(call: Call) -> usize
         Call::MergeWrite => 4,
         Call::Pin => 5,
         Call::TakeIn => 5,
-        Call::NoCall => 0,
     }
 }
 
-// Which word of a line says the bytes that the call is lent: RECORD, TEXT, or pack's OUT; 0, its name, for merge_read,
-// which is lent none.
+// Which word of a line says the bytes that the call is lent: RECORD, TEXT, or pack's OUT; none for merge_read, which is
+// lent none.
 #[tactic(auto, unfolding(crate::specs::Calls::lent_by))]
-pub fn lent(call: Call) -> usize
+pub fn lent(call: Call) -> Option<usize>
     ensures { result ≡ lent_by call }
 {
     match call {
-        Call::Pack => 8,
-        Call::MergeRead => 0,
-        _ => 1,
+        Call::Pack => Some(8),
+        Call::MergeRead => None,
+        _ => Some(1),
     }
 }

@@ -1,10 +1,10 @@
 // The calls that may change a record: free, run, hands, hold and pin. Each answers its numbers, then the record's
-// bytes.
+// bytes. None is answered for a line that is no call.
 use calls_turns::answers::{Freed, Ran};
 use desk_words::lists::hands as hands_in;
-use desk_words::numbers::number;
+use desk_words::numbers::{number, number8, number16};
 use desk_words::room;
-use desk_words::spelling::{done, next_bytes, no_call};
+use desk_words::spelling::{done, next_bytes};
 use desk_words::words::word;
 use std::io;
 use std::io::Stdout;
@@ -20,13 +20,10 @@ fn freed(stdout: Stdout, answer: Freed, s: &[u8]) -> io::Result<()> {
 }
 
 // free RECORD SIDE -> NUMBER BEFORE AFTER RECORD
-pub fn free(stdout: Stdout, line: &[u8], s: &mut [u8]) -> io::Result<()> {
-    let side = number(word(line, 2), 65535);
-    if 65535 < side {
-        return no_call(stdout);
-    }
-    let answer = calls_turns::free(s, side as u16);
-    freed(stdout, answer, s)
+pub fn free(stdout: Stdout, line: &[u8], s: &mut [u8]) -> Option<io::Result<()>> {
+    let side = number16(word(line, 2))?;
+    let answer = calls_turns::free(s, side);
+    Some(freed(stdout, answer, s))
 }
 
 // NUMBER FIRST LAST TURNS SETTLED RECORD
@@ -42,50 +39,32 @@ fn ran(stdout: Stdout, answer: Ran, s: &[u8]) -> io::Result<()> {
 }
 
 // run RECORD ALLOWANCE -> NUMBER FIRST LAST TURNS SETTLED RECORD
-pub fn run(stdout: Stdout, line: &[u8], s: &mut [u8]) -> io::Result<()> {
-    let allowance = number(word(line, 2), 0xffff_ffff);
-    if 0xffff_ffff < allowance {
-        return no_call(stdout);
-    }
-    let answer = calls_turns::run(s, allowance as u32);
-    ran(stdout, answer, s)
+pub fn run(stdout: Stdout, line: &[u8], s: &mut [u8]) -> Option<io::Result<()>> {
+    let allowance = number(word(line, 2), 0xffff_ffff)?;
+    let answer = calls_turns::run(s, allowance);
+    Some(ran(stdout, answer, s))
 }
 
 // hands RECORD HANDS -> NUMBER RECORD
-pub fn hands(stdout: Stdout, line: &[u8], s: &mut [u8]) -> io::Result<()> {
+pub fn hands(stdout: Stdout, line: &[u8], s: &mut [u8]) -> Option<io::Result<()>> {
     let mut list = room::for_hands();
-    let n = hands_in(word(line, 2), &mut list);
-    if 262144 < n {
-        return no_call(stdout);
-    }
+    let n = hands_in(word(line, 2), &mut list)?;
     let answer = calls_hands::hands(s, &list[..n]);
-    done(stdout, answer.number, answer.row, s)
+    Some(done(stdout, answer.number, answer.row, s))
 }
 
 // hold RECORD LETTER -> NUMBER RECORD
-pub fn hold(stdout: Stdout, line: &[u8], s: &mut [u8]) -> io::Result<()> {
-    let letter = number(word(line, 2), 255);
-    if 255 < letter {
-        return no_call(stdout);
-    }
-    let answer = record::set_hold(s, letter as u8);
-    done(stdout, answer.number, answer.row, s)
+pub fn hold(stdout: Stdout, line: &[u8], s: &mut [u8]) -> Option<io::Result<()>> {
+    let letter = number8(word(line, 2))?;
+    let answer = record::set_hold(s, letter);
+    Some(done(stdout, answer.number, answer.row, s))
 }
 
 // pin RECORD SIDE ROW FLAG -> NUMBER RECORD
-pub fn pin(stdout: Stdout, line: &[u8], s: &mut [u8]) -> io::Result<()> {
-    let side = number(word(line, 2), 65535);
-    if 65535 < side {
-        return no_call(stdout);
-    }
-    let row = number(word(line, 3), 65535);
-    if 65535 < row {
-        return no_call(stdout);
-    }
-    let flag = number(word(line, 4), 1);
-    if 1 < flag {
-        return no_call(stdout);
-    }
-    let answer = calls_pins::pin(s, side as u16, row as u16, flag == 1);
-    done(stdout, answer.number, answer.row, s)
+pub fn pin(stdout: Stdout, line: &[u8], s: &mut [u8]) -> Option<io::Result<()>> {
+    let side = number16(word(line, 2))?;
+    let row = number16(word(line, 3))?;
+    let flag = number(word(line, 4), 1)?;
+    let answer = calls_pins::pin(s, side, row, flag == 1);
+    Some(done(stdout, answer.number, answer.row, s))
 }

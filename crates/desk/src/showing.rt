@@ -5,8 +5,8 @@ ghost use Rattle.std.specs.Float.Ieee.{eq, to_bits};
 
 use calls_show::answers::{Counted, InThousandths, SquaredEntanglement};
 use desk_words::lists::list as list_in;
-use desk_words::numbers::number;
-use desk_words::spelling::{list, next_bits, next_list, no_call};
+use desk_words::numbers::number16;
+use desk_words::spelling::{list, next_bits, next_list};
 use desk_words::words::word;
 use std::io;
 use std::io::Stdout;
@@ -31,17 +31,11 @@ fn ordered(stdout: Stdout, s: &[u8], side: u16, xs: &mut [u16]) -> io::Result<()
     printing::end(stdout)
 }
 
-// order RECORD SIDE OUT -> NUMBER OUT
-pub fn order(stdout: Stdout, line: &[u8], s: &[u8], xs: &mut [u16]) -> io::Result<()> {
-    let side = number(word(line, 2), 65535);
-    if 65535 < side {
-        return no_call(stdout);
-    }
-    let n = list_in(word(line, 3), xs);
-    if xs.len() < n {
-        return no_call(stdout);
-    }
-    ordered(stdout, s, side as u16, &mut xs[..n])
+// order RECORD SIDE OUT -> NUMBER OUT; none for a line that is no call.
+pub fn order(stdout: Stdout, line: &[u8], s: &[u8], xs: &mut [u16]) -> Option<io::Result<()>> {
+    let side = number16(word(line, 2))?;
+    let n = list_in(word(line, 3), xs)?;
+    Some(ordered(stdout, s, side, &mut xs[..n]))
 }
 
 // NUMBER COUNT
@@ -118,44 +112,36 @@ pub fn thousandths(stdout: Stdout, s: &[u8]) -> io::Result<()> {
     }
 }
 
-// better RECORD SIDE FIRST SECOND -> PART, and better_check RECORD SIDE FIRST SECOND -> NUMBER. The second list stands
-// behind the first in xs.
-pub fn better(
+// What a line says that compares two orders: the side, and the orders, which are put one behind the other into xs; none
+// for a line that is no call.
+fn orders<'a>(line: &[u8], xs: &'a mut [u16]) -> Option<(u16, &'a [u16], &'a [u16])> {
+    let side = number16(word(line, 2))?;
+    let a = list_in(word(line, 3), xs)?;
+    let b = list_in(word(line, 4), &mut xs[a..])?;
+    let (first, rest) = xs.split_at(a);
+    Some((side, first, &rest[..b]))
+}
+
+// PART
+fn told(stdout: Stdout, part: &[u16]) -> io::Result<()> {
+    list(stdout, part)?;
+    printing::end(stdout)
+}
+
+// better RECORD SIDE FIRST SECOND -> PART
+pub fn better(stdout: Stdout, line: &[u8], s: &[u8], xs: &mut [u16]) -> Option<io::Result<()>> {
+    let (side, first, second) = orders(line, xs)?;
+    Some(told(stdout, calls_better::better(s, side, first, second)))
+}
+
+// better_check RECORD SIDE FIRST SECOND -> NUMBER
+pub fn better_check(
     stdout: Stdout,
     line: &[u8],
     s: &[u8],
     xs: &mut [u16],
-    check: bool,
-) -> io::Result<()> {
-    let side = number(word(line, 2), 65535);
-    if 65535 < side {
-        return no_call(stdout);
-    }
-    let a = list_in(word(line, 3), xs);
-    if xs.len() < a {
-        return no_call(stdout);
-    }
-    let b = list_in(word(line, 4), &mut xs[a..]);
-    if xs.len() - a < b {
-        return no_call(stdout);
-    }
-    let end = a + b;
-    let lists = &xs[..];
-    compared(stdout, check, s, side as u16, &lists[..a], &lists[a..end])
-}
-
-fn compared<'a>(
-    stdout: Stdout,
-    check: bool,
-    s: &[u8],
-    side: u16,
-    first: &'a [u16],
-    second: &'a [u16],
-) -> io::Result<()> {
-    if check {
-        let found = calls_better::better_check(s, side, first, second);
-        return only(stdout, found.number, found.row);
-    }
-    list(stdout, calls_better::better(s, side, first, second))?;
-    printing::end(stdout)
+) -> Option<io::Result<()>> {
+    let (side, first, second) = orders(line, xs)?;
+    let found = calls_better::better_check(s, side, first, second);
+    Some(only(stdout, found.number, found.row))
 }

@@ -1,34 +1,33 @@
 // The calls on Newick text. A text or a record is the bytes that word 1 of the line says; an answer has the numbers,
-// then the buffer as it is afterwards.
+// then the buffer as it is afterwards. None is answered for a line that is no call.
 use desk_words::bytes::bytes;
 use desk_words::lists::list;
-use desk_words::numbers::number;
+use desk_words::numbers::number16;
 use desk_words::room;
-use desk_words::spelling::{next_bytes, next_list, no_call};
+use desk_words::spelling::{next_bytes, next_list};
 use desk_words::words::word;
 use std::io;
 use std::io::Stdout;
-
-// The places that there are for what is written.
-const ROOM: usize = 524288;
 
 // NUMBER N OUT
 fn read(stdout: Stdout, text: &[u8], out: &mut [u16]) -> io::Result<()> {
     let answer = calls_newick::newick_read(text, out);
     let refusal = answer.refusal;
     printing::refusal(stdout, refusal.number, refusal.row)?;
-    printing::next_entry(stdout, answer.n)?;
+    printing::next(stdout, answer.n)?;
     next_list(stdout, out)?;
     printing::end(stdout)
 }
 
 // newick_read TEXT OUT -> NUMBER N OUT
-pub fn newick_read(stdout: Stdout, line: &[u8], text: &[u8], xs: &mut [u16]) -> io::Result<()> {
-    let n = list(word(line, 2), xs);
-    if xs.len() < n {
-        return no_call(stdout);
-    }
-    read(stdout, text, &mut xs[..n])
+pub fn newick_read(
+    stdout: Stdout,
+    line: &[u8],
+    text: &[u8],
+    xs: &mut [u16],
+) -> Option<io::Result<()>> {
+    let n = list(word(line, 2), xs)?;
+    Some(read(stdout, text, &mut xs[..n]))
 }
 
 // NUMBER LENGTH OUT
@@ -36,21 +35,15 @@ fn written(stdout: Stdout, s: &[u8], side: u16, out: &mut [u8]) -> io::Result<()
     let answer = calls_newick::newick_write(s, side, out);
     let refusal = answer.refusal;
     printing::refusal(stdout, refusal.number, refusal.row)?;
-    printing::next_entry(stdout, answer.length)?;
+    printing::next(stdout, answer.length)?;
     next_bytes(stdout, out)?;
     printing::end(stdout)
 }
 
 // newick_write RECORD SIDE OUT -> NUMBER LENGTH OUT
-pub fn newick_write(stdout: Stdout, line: &[u8], s: &[u8]) -> io::Result<()> {
-    let side = number(word(line, 2), 65535);
-    if 65535 < side {
-        return no_call(stdout);
-    }
+pub fn newick_write(stdout: Stdout, line: &[u8], s: &[u8]) -> Option<io::Result<()>> {
+    let side = number16(word(line, 2))?;
     let mut out = room::for_bytes();
-    let n = bytes(word(line, 3), &mut out);
-    if ROOM < n {
-        return no_call(stdout);
-    }
-    written(stdout, s, side as u16, &mut out[..n])
+    let n = bytes(word(line, 3), &mut out)?;
+    Some(written(stdout, s, side, &mut out[..n]))
 }

@@ -2,15 +2,12 @@
 // then the layout's buffer as it is afterwards.
 use desk_words::bytes::bytes;
 use desk_words::lists::list;
-use desk_words::numbers::number;
+use desk_words::numbers::number16;
 use desk_words::room;
-use desk_words::spelling::{next_bytes, no_call};
+use desk_words::spelling::next_bytes;
 use desk_words::words::word;
 use std::io;
 use std::io::Stdout;
-
-// The places that there are for a layout.
-const ROOM: usize = 524288;
 
 // NUMBER COUNT LEAST LAYOUT
 fn taken(stdout: Stdout, s: &[u8], side: u16, xs: &[u16], out: &mut [u8]) -> io::Result<()> {
@@ -23,20 +20,11 @@ fn taken(stdout: Stdout, s: &[u8], side: u16, xs: &[u16], out: &mut [u8]) -> io:
     printing::end(stdout)
 }
 
-// take_in RECORD SIDE ORDER LAYOUT -> NUMBER COUNT LEAST LAYOUT
-pub fn take_in(stdout: Stdout, line: &[u8], s: &[u8], xs: &mut [u16]) -> io::Result<()> {
-    let side = number(word(line, 2), 65535);
-    if 65535 < side {
-        return no_call(stdout);
-    }
-    let n = list(word(line, 3), xs);
-    if xs.len() < n {
-        return no_call(stdout);
-    }
+// take_in RECORD SIDE ORDER LAYOUT -> NUMBER COUNT LEAST LAYOUT; none for a line that is no call.
+pub fn take_in(stdout: Stdout, line: &[u8], s: &[u8], xs: &mut [u16]) -> Option<io::Result<()>> {
+    let side = number16(word(line, 2))?;
+    let n = list(word(line, 3), xs)?;
     let mut out = room::for_bytes();
-    let m = bytes(word(line, 4), &mut out);
-    if ROOM < m {
-        return no_call(stdout);
-    }
-    taken(stdout, s, side as u16, &xs[..n], &mut out[..m])
+    let m = bytes(word(line, 4), &mut out)?;
+    Some(taken(stdout, s, side, &xs[..n], &mut out[..m]))
 }

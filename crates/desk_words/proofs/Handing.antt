@@ -1,62 +1,49 @@
--- Laws of the hand that a word says, by the colon and the two numbers.
-use Prim.Native.Nat.{ℕ, suc, ◌+◌, ◌-◌, ◌*◌, ◌≤◌, ◌<◌}
+-- Laws of the hand that a word says, by what the colon parts and the two numbers.
+use Prim.Native.Nat.{ℕ, ◌+◌, ◌*◌, ◌≤◌, ◌<◌}
 use native.Mathlib.Omega.{arith}
-use mathlib.Core.Path.{◌≡◌, refl, ◌∙◌}
+use mathlib.Core.Path.{◌≡◌, refl, sym, ◌∙◌}
 use mathlib.Core.Bool.{Bool, true, false, cond}
 use mathlib.Core.List.{List}
-use mathlib.Core.Option.{Option, none, some}
+use Rattle.std.specs.Prelude.{Option, None, Some, MatchOption}
 use borrow.Author.Tests.{lt-ltb, le-ltb}
+use denote.Ref.{Bor}
 use lib.Dec.{ltb}
-use lib.ListN.{length, take, drop, length-drop}
-use lib.Seq.{take_all}
-use Rattle.desk_words.specs.Words.{up_to_stop, behind}
+use lib.ListN.{length}
+use Rattle.desk_words.specs.Words.{Cut, up_to_stop, behind}
 use Rattle.desk_words.specs.Numbers.{number_in}
 use Rattle.desk_words.specs.Lists.{hand_number, hand_said}
-use Rattle.desk_words.proofs.Reading.{Limited, limited}
 
-of_limited : (o p : Option ℕ) → Limited 65535 o → Limited 65535 p → Limited 4294967295 (hand_number o p)
-of_limited none p h l = tt
-of_limited (some x) none h l = tt
-of_limited (some x) (some y) h l = let a : x ≤ 65535 = h in let b : y ≤ 65535 = l in omega arith
+no_row : (o : Option ℕ) → None ≡ hand_number o None
+no_row None = refl
+no_row (Some x) = refl
 
-if_limited : (b : Bool) (o : Option ℕ) → Limited 4294967295 o → Limited 4294967295 (cond b o none)
-if_limited true o h = h
-if_limited false o h = tt
+none_either : (b : Bool) → None ≡ cond {A = Option ℕ} b None None
+none_either true = refl
+none_either false = refl
 
-pub hand_limited : (word : List ℕ) → Limited 4294967295 (hand_said word)
-unfolding hand_said
-hand_limited word =
-    let side = number_in 65535 (take (up_to_stop 58 word) word) in
-    let row = number_in 65535 (behind 58 word) in
-    if_limited (ltb (up_to_stop 58 word) (length word)) (hand_number side row)
-    (of_limited side row (limited 65535 (take (up_to_stop 58 word) word)) (limited 65535 (behind 58 word)))
-
-no_row : (o : Option ℕ) → hand_number o none ≡ none
-no_row none = refl
-no_row (some x) = refl
-
-module _ (word : List ℕ) (to : ℕ) (e : to ≡ 0 + up_to_stop 58 word) where
-  pub no_colon : to ≡ length word → hand_said word ≡ none
+module _ (word part : List ℕ) (rest : Option (Bor (List ℕ))) (c : Cut 58 word part rest) where
+  pub bad_side : None ≡ number_in 65535 part → None ≡ hand_said word
   unfolding hand_said
-  no_colon h = rw (le-ltb (up_to_stop 58 word) (length word) (omega arith))
+  bad_side e =
+      let side : None ≡ number_in 65535 part = e in
+      rw (← c.before, ← side) (none_either (ltb (up_to_stop 58 word) (length word)))
 
-  module _ (h : to < length word) where
-    by_parts : hand_said word ≡
-        hand_number (number_in 65535 (take to word)) (number_in 65535 (take (length word - (to + 1)) (drop (to + 1) word)))
-    unfolding hand_said behind
+  pub no_colon : rest ≡ None → None ≡ hand_said word
+  unfolding hand_said
+  no_colon e =
+      let all : up_to_stop 58 word ≡ length word = rw e at c.after in
+      rw (le-ltb (up_to_stop 58 word) (length word) (omega arith))
+
+  module _ (r : Bor (List ℕ)) (e : rest ≡ Some r) where
+    by_parts : hand_said word ≡ hand_number (number_in 65535 part) (number_in 65535 r.now)
+    unfolding hand_said
     by_parts =
-        let here : up_to_stop 58 word ≡ to = omega arith in
-        let next : suc to ≡ to + 1 = omega arith in
-        let all : take (length word - (to + 1)) (drop (to + 1) word) ≡ drop (to + 1) word =
-        take_all (length word - (to + 1)) (drop (to + 1) word) (rw length-drop (omega arith)) in
-        rw (lt-ltb (up_to_stop 58 word) (length word) (omega arith)) (rw (here, next, all))
+        let after : (up_to_stop 58 word < length word) × (r.now ≡ behind 58 word) = rw e at c.after in
+        rw (lt-ltb (up_to_stop 58 word) (length word) after.0, ← c.before, ← after.1)
 
-    pub bad_side : number_in 65535 (take to word) ≡ none → hand_said word ≡ none
-    bad_side s = by_parts ∙ rw s
+    pub bad_row : None ≡ number_in 65535 r.now → None ≡ hand_said word
+    bad_row q = rw (by_parts, ← q) (no_row (number_in 65535 part))
 
-    pub bad_row : number_in 65535 (take (length word - (to + 1)) (drop (to + 1) word)) ≡ none → hand_said word ≡ none
-    bad_row r = by_parts ∙ rw r (no_row (number_in 65535 (take to word)))
-
-    pub both-said : (side row : ℕ) → number_in 65535 (take to word) ≡ some side
-        → number_in 65535 (take (length word - (to + 1)) (drop (to + 1) word)) ≡ some row → hand_said word ≡ some (65536 * side + row)
-    both-said side row s r = by_parts ∙ rw (s, r)
+    pub both-said : (side row : ℕ) → Some side ≡ number_in 65535 part → Some row ≡ number_in 65535 r.now
+        → Some (65536 * side + row) ≡ hand_said word
+    both-said side row s q = rw (by_parts, ← s, ← q)

@@ -1,8 +1,10 @@
 mod Parting
 mod Reading
+mod Digits
 pub mod Filling
 mod Pairing
 mod Listing
 mod Handing
-mod Spelt
 mod Signing
+mod Spelt
+pub mod Placing

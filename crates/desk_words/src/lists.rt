@@ -1,80 +1,77 @@
-// The numbers that a word says with commas between: a list, or hands.
-ghost use Rattle.std.specs.Prelude.{◌≡◌};
-ghost use Rattle.std.proofs.Math.Option.{get_or};
-ghost use Rattle.desk_words.specs.Lists.{list_in, hand_said, hands_in};
+// What a word says part by part, with commas between: a list, hands, or the signed numbers of a merge table.
+ghost use Rattle.std.specs.Prelude.{IfSome, List, Option, length, ℕ, ◌≡◌, ◌≤◌};
+ghost use Rattle.std.specs.Fn.{FnReturnsAt};
+ghost use Rattle.desk_words.specs.Lists.{entries_in, list_in, hand_said, hands_in};
+ghost use Rattle.desk_words.specs.Tables.{table_in};
 ghost use Rattle.desk_words.specs.Puts.{Puts};
 
-use crate::numbers::number;
-use crate::room::NOWHERE;
-use crate::words::{is_dash, upto};
+use crate::numbers::number16;
+use crate::tables::signed;
+use crate::words::{cut, is_dash};
 
-// Puts the 16-bit numbers that a word says into the first places of out, and answers how many; `NOWHERE` where it says
-// no list.
-pub fn list(word: &[u8], out: &mut [u16]) -> usize
-    ensures { Puts (list_in word.now) out.old result out.new }
+// Puts what the parts of a word say, each as `entry` reads it, into the first places of out, and answers how many; none
+// where a part says nothing or there is no room.
+fn entries<T: Copy, F: Fn(&[u8]) -> Option<T>>(
+    word: &[u8],
+    out: &mut [T],
+    entry: F,
+) -> Option<usize>
+    requires { F.IsAlwaysCallable entry }
+    ensures says { (said : List ℕ → Option T)
+        → ((part : List ℕ) (r : Option T) → FnReturnsAt F.Fn entry part r → r ≡ said part)
+        → Puts (entries_in said word.now) out.old result out.new }
+    ensures fits { IfSome result (λ n. n ≤ length out.old) }
 {
     if is_dash(word) {
-        return 0;
+        return Some(0);
     }
     let mut n = 0;
-    let mut from = 0;
-    while n < out.len() {
-        let to = upto(word, from, b',');
-        let x = number(&word[from..to], 65535);
-        if 65535 < x {
-            return NOWHERE;
+    let mut rest = Some(word);
+    while let Some(text) = rest {
+        if n == out.len() {
+            return None;
         }
-        out[n] = x as u16;
+        let (part, behind) = cut(text, b',');
+        out[n] = entry(part)?;
         n += 1;
-        if to == word.len() {
-            return n;
-        }
-        from = to + 1;
+        rest = behind;
     }
-    NOWHERE
+    Some(n)
 }
 
-// The hand that a word says, `side:row`, as one number; 2 to the 32 where it says none.
-fn hand(word: &[u8]) -> u64
-    ensures { result ≡ get_or (hand_said word.now) 0x1_0000_0000 }
+// Puts the 16-bit numbers that a word says into the first places of out, and answers how many; none where it says no
+// list or there is no room.
+pub fn list(word: &[u8], out: &mut [u16]) -> Option<usize>
+    ensures says { Puts (list_in word.now) out.old result out.new }
+    ensures fits { IfSome result (λ n. n ≤ length out.old) }
 {
-    let to = upto(word, 0, b':');
-    if to == word.len() {
-        return 0x1_0000_0000;
-    }
-    let side = number(&word[..to], 65535);
-    if 65535 < side {
-        return 0x1_0000_0000;
-    }
-    let from = to + 1;
-    let row = number(&word[from..], 65535);
-    if 65535 < row {
-        return 0x1_0000_0000;
-    }
-    65536 * side + row
+    entries(word, out, number16)
 }
 
-// Puts the hands that a word says into the first places of out, and answers how many; `NOWHERE` where it says none.
-pub fn hands(word: &[u8], out: &mut [u32]) -> usize
-    ensures { Puts (hands_in word.now) out.old result out.new }
+// The hand that a word says, `side:row`, as one number.
+fn hand(word: &[u8]) -> Option<u32>
+    ensures { result ≡ hand_said word.now }
 {
-    if is_dash(word) {
-        return 0;
-    }
-    let mut n = 0;
-    let mut from = 0;
-    while n < out.len() {
-        let to = upto(word, from, b',');
-        let x = hand(&word[from..to]);
-        if 0xffff_ffff < x {
-            return NOWHERE;
-        }
-        out[n] = x as u32;
-        n += 1;
-        if to == word.len() {
-            return n;
-        }
-        from = to + 1;
-    }
-    NOWHERE
+    let (side, behind) = cut(word, b':');
+    let side = number16(side)?;
+    let row = number16(behind?)?;
+    Some(65536 * u32::from(side) + u32::from(row))
+}
+
+// Puts the hands that a word says into the first places of out, and answers how many; none where it says no hands or
+// there is no room.
+pub fn hands(word: &[u8], out: &mut [u32]) -> Option<usize>
+    ensures says { Puts (hands_in word.now) out.old result out.new }
+    ensures fits { IfSome result (λ n. n ≤ length out.old) }
+{
+    entries(word, out, hand)
+}
+
+// Puts the signed numbers that a word says into the first places of out, and answers how many; none where it says no
+// such numbers or there is no room.
+pub fn table(word: &[u8], out: &mut [i32]) -> Option<usize>
+    ensures says { Puts (table_in word.now) out.old result out.new }
+    ensures fits { IfSome result (λ n. n ≤ length out.old) }
+{
+    entries(word, out, signed)
 }

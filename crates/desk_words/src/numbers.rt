@@ -1,41 +1,47 @@
 // The number that a word of decimal digits says.
-ghost use Rattle.std.specs.Prelude.{◌≡◌, ◌+◌};
-ghost use Rattle.std.proofs.Math.Option.{get_or};
-ghost use Rattle.desk_words.specs.Numbers.{digit_of, number_in};
+ghost use Rattle.std.specs.Prelude.{◌≡◌};
+ghost use Rattle.desk_words.specs.Numbers.{digit_of, number_in, within};
 
-// A decimal digit's value; 10 for any other byte.
-fn digit(x: u8) -> u64
-    ensures { result ≡ digit_of x }
+// A decimal digit's value; none for any other byte.
+fn digit(x: u8) -> Option<u8>
+    ensures { result ≡ within 9 (digit_of x) }
 {
-    if x < 48 {
-        return 10;
+    match x {
+        b'0'..=b'9' => Some(x - b'0'),
+        _ => None,
     }
-    if 57 < x {
-        return 10;
-    }
-    (x - 48) as u64
 }
 
-// The number that a word of one or more digits says, if it is at most `most`; else one more than `most`.
-pub fn number(word: &[u8], most: u32) -> u64
-    ensures { result ≡ get_or (number_in most word.now) (most + 1) }
+// The number that a word of one or more digits says, if it is at most `most`.
+pub fn number(word: &[u8], most: u32) -> Option<u32>
+    ensures { result ≡ number_in most word.now }
 {
-    let none = most as u64 + 1;
-    if word.len() == 0 {
-        return none;
+    if word.is_empty() {
+        return None;
     }
-    let mut x: u64 = 0;
-    let mut i = 0;
-    while i < word.len() {
-        let d = digit(word[i]);
-        if 9 < d {
-            return none;
+    let mut x = 0;
+    for byte in word {
+        let d = digit(*byte)?;
+        x = 10 * x + u64::from(d);
+        if u64::from(most) < x {
+            return None;
         }
-        x = 10 * x + d;
-        if none <= x {
-            return none;
-        }
-        i += 1;
     }
-    x
+    Some(x as u32)
+}
+
+// The number of 16 bits that a word says.
+pub fn number16(word: &[u8]) -> Option<u16>
+    ensures { result ≡ number_in 65535 word.now }
+{
+    let x = number(word, 65535)?;
+    Some(x as u16)
+}
+
+// The number of 8 bits that a word says.
+pub fn number8(word: &[u8]) -> Option<u8>
+    ensures { result ≡ number_in 255 word.now }
+{
+    let x = number(word, 255)?;
+    Some(x as u8)
 }

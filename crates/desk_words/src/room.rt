@@ -1,9 +1,10 @@
 // Zeros to put the input and what its words say into. A line of 1,048,576 bytes says fewer bytes, numbers and hands.
+// Each is a function of its own: with an array written at its place, the check of the function there doesn't end.
 
-// More places than there are anywhere.
-pub const NOWHERE: usize = 0xffff_ffff_ffff_ffff;
+// The bytes of input that are answered.
+pub const MOST: usize = 1048576;
 
-// For the input, with one byte more than is answered.
+// For the input: one byte more than is answered, so that it shows whether more follows.
 pub fn for_input() -> [u8; 1048577] {
     [0; 1048577]
 }

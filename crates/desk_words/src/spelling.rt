@@ -2,6 +2,7 @@
 ghost use Rattle.std.specs.Prelude.{◌≡◌, ◌+◌, ◌*◌, ◌≤◌, length, take, drop};
 ghost use Rattle.desk_words.specs.Bytes.{hex_digit, spelling};
 
+use std::fmt::Display;
 use std::io;
 use std::io::Stdout;
 
@@ -25,12 +26,10 @@ fn spelled(s: &[u8], n: usize) -> [u8; 64]
     ensures { take (2 * n) result ≡ spelling (take n s.now) }
 {
     let mut text = [0u8; 64];
-    let mut k = 0;
-    while k < n {
+    for k in 0..n {
         let x = s[k];
         text[2 * k] = hex_digit(x / 16);
         text[2 * k + 1] = hex_digit(x % 16);
-        k += 1;
     }
     text
 }
@@ -49,16 +48,13 @@ fn digits(stdout: Stdout, s: &[u8]) -> io::Result<()> {
 // A space and bytes, or a dash for none.
 pub fn next_bytes(stdout: Stdout, s: &[u8]) -> io::Result<()> {
     printing::byte(stdout, b' ')?;
-    if s.len() == 0 {
+    if s.is_empty() {
         return printing::byte(stdout, b'-');
     }
-    let mut from = 0;
-    while 32 < s.len() - from {
-        let to = from + 32;
-        digits(stdout, &s[from..to])?;
-        from = to;
+    for part in s.chunks(32) {
+        digits(stdout, part)?;
     }
-    digits(stdout, &s[from..])
+    Ok(())
 }
 
 // A refusal's number and row, bytes and a line feed.
@@ -68,41 +64,23 @@ pub fn done(stdout: Stdout, number: u16, row: u16, s: &[u8]) -> io::Result<()> {
     printing::end(stdout)
 }
 
-// A list with commas between, or a dash for none.
-pub fn list(stdout: Stdout, xs: &[u16]) -> io::Result<()> {
-    if xs.len() == 0 {
+// Numbers with commas between, or a dash for none.
+pub fn list<T: Copy + Display>(stdout: Stdout, xs: &[T]) -> io::Result<()> {
+    let Some((first, rest)) = xs.split_first() else {
         return printing::byte(stdout, b'-');
-    }
-    printing::entry(stdout, xs[0])?;
-    let mut i = 1;
-    while i < xs.len() {
+    };
+    printing::number(stdout, *first)?;
+    for x in rest {
         printing::byte(stdout, b',')?;
-        printing::entry(stdout, xs[i])?;
-        i += 1;
+        printing::number(stdout, *x)?;
     }
     Ok(())
 }
 
-// A space and a list.
-pub fn next_list(stdout: Stdout, xs: &[u16]) -> io::Result<()> {
+// A space and such a list.
+pub fn next_list<T: Copy + Display>(stdout: Stdout, xs: &[T]) -> io::Result<()> {
     printing::byte(stdout, b' ')?;
     list(stdout, xs)
-}
-
-// A space and a list of signed numbers with commas between, or a dash for none.
-pub fn next_table(stdout: Stdout, xs: &[i32]) -> io::Result<()> {
-    printing::byte(stdout, b' ')?;
-    if xs.len() == 0 {
-        return printing::byte(stdout, b'-');
-    }
-    printing::signed_entry(stdout, xs[0])?;
-    let mut i = 1;
-    while i < xs.len() {
-        printing::byte(stdout, b',')?;
-        printing::signed_entry(stdout, xs[i])?;
-        i += 1;
-    }
-    Ok(())
 }
 
 // A space and the 16 hexadecimal digits of a ratio's bits.

@@ -30,12 +30,10 @@ fn tell(rt: HostRuntime, line: &[u8]) {
 // the code that shows one takes more than the rest of the program (host/measure/sheet.sh).
 fn main(rt: HostRuntime) {
     let mut bytes = [0u8; 6143];
-    let read = input::read_whole(&mut rt.stdin(), &mut bytes);
-    if !read.whole {
+    let Ok(n) = input::read_whole(&mut rt.stdin(), &mut bytes) else {
         tell(rt, b"sheet: standard input can't be read\n");
         return;
-    }
-    let n = read.bytes;
+    };
     if print(rt.stdout(), &mut bytes[..n]).is_err() {
         tell(rt, b"sheet: standard output can't be written\n");
     }

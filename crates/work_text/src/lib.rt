@@ -4,5 +4,5 @@
 mod lines;
 mod putting;
 
-pub use lines::{put_entries_line, put_line, put_spaced};
+pub use lines::{Number, put_line, put_spaced};
 pub use putting::{put, put_next, put_number};

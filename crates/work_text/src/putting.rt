@@ -31,5 +31,5 @@ pub fn put_next(x: u32, out: &mut [u8], at: usize) -> usize
     ensures { Puts (next x) out.old at result out.new }
 {
     let from = put(b" ", out, at);
-    put_number(x as u64, out, from)
+    put_number(u64::from(x), out, from)
 }

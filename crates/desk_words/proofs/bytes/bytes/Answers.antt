@@ -1,39 +1,47 @@
-use Rattle.std.proofs.Common.{arith, sym, ◌∙◌}
-use Rattle.desk_words.proofs.Pairing.{paired_none, paired_more, paired_bad, paired_all, pair_narrow, dash-said}
+use Rattle.std.proofs.Common.{arith, sym, ◌∙◌, ◌≡◌}
+use Rattle.desk_words.proofs.Pairing.{paired_none, paired_more, paired_bad, paired_all, pair_none, pair_narrow, dash-said}
 use Rattle.desk_words.proofs.Filling.{puts_empty}
 use Rattle.desk_words.proofs.bytes.bytes.Goals as goal
 
-pub returns-then-is_dash : goal.returns-then-is_dash
-returns-then-is_dash c =
+pub returns-then-is_dash-clause-says : goal.returns-then-is_dash-clause-says
+returns-then-is_dash-clause-says c =
     let a = c.args in
     puts_empty a.out.now (dash-said a.word.now (sym c.is_dash.ensures ∙ c.if-is_dash.true))
 
-pub returns-then-out-n : goal.returns-then-out-n
-returns-then-out-n c =
+pub returns-in_err-n-clause-says : goal.returns-in_err-n-clause-says
+returns-in_err-n-clause-says c =
     let a = c.args in
     let other = sym c.is_dash.ensures ∙ c.if-is_dash.false in
-    pair_narrow a.word.now a.out.now a.out.now other (omega arith)
+    rw c.from_residual.ensures (pair_none a.word.now a.out.now a.out.now other c.in_err-n.ensures)
+
+pub returns-then-out-n-clause-says : goal.returns-then-out-n-clause-says
+returns-then-out-n-clause-says c =
+    let a = c.args in
+    let other = sym c.is_dash.ensures ∙ c.if-is_dash.false in
+    pair_narrow a.word.now _ a.out.now a.out.now other c.in_ok-n.ensures (omega arith)
 
 pub loop-i-init : goal.loop-i-init
 loop-i-init c =
     let a = c.args in
     let other = sym c.is_dash.ensures ∙ c.if-is_dash.false in
-    paired_none a.word.now a.out.now c.pairs-n.result other c.pairs-n.ensures (omega arith) (omega arith)
+    paired_none a.word.now a.out.now _ other c.in_ok-n.ensures (omega arith)
 
-pub returns-then-x-gt255 : goal.returns-then-x-gt255
-returns-then-x-gt255 c =
+pub returns-clause-says : goal.returns-clause-says
+returns-clause-says c =
     let a = c.args in
     let l = c.loop-i in
-    paired_bad a.word.now a.out.now _ l.i _ l.out (omega arith) c.pair-x.ensures (omega arith) l.invariant
+    let end : l.i ≡ c.in_ok-n.n = omega arith in
+    paired_all a.word.now a.out.now c.in_ok-n.n l.out (rw end at l.invariant)
+
+pub returns-in_err-out-clause-says : goal.returns-in_err-out-clause-says
+returns-in_err-out-clause-says c =
+    let a = c.args in
+    let l = c.loop-i in
+    rw c.from_residual-in_err-out.ensures
+    (paired_bad a.word.now a.out.now _ l.i l.out (omega arith) l.invariant c.in_err-out.ensures)
 
 pub loop-i-preserved : goal.loop-i-preserved
 loop-i-preserved c =
     let a = c.args in
     let l = c.loop-i in
-    paired_more a.word.now a.out.now _ l.i _ l.out (omega arith) c.pair-x.ensures (omega arith) l.invariant
-
-pub returns : goal.returns
-returns c =
-    let a = c.args in
-    let l = c.loop-i in
-    paired_all a.word.now a.out.now _ l.i l.out (omega arith) l.invariant
+    paired_more a.word.now a.out.now _ l.i l.out (omega arith) l.invariant _ c.in_ok-out.ensures

@@ -1,6 +1,6 @@
 -- `hex`: by the tests.
 use Rattle.std.proofs.Common.{arith}
-use Rattle.desk_words.proofs.Pairing.{hex_number, hex_letter, hex_low, hex_middle, hex_high}
+use Rattle.desk_words.proofs.Digits.{hex_number, hex_letter, hex_low, hex_middle, hex_high}
 use Rattle.desk_words.proofs.bytes.hex.Goals as goal
 
 pub returns-in-48-to-57 : goal.returns-in-48-to-57

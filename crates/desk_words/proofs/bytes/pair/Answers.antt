@@ -1,15 +1,25 @@
--- `pair`: by the two tests.
-use Rattle.std.proofs.Common.{arith}
-use Rattle.desk_words.proofs.Pairing.{byte_no_first, byte_no_second, byte-both}
+-- `pair`: by the two digits.
+use Rattle.std.proofs.Common.{arith, ◌∙◌}
+use Rattle.desk_words.proofs.Reading.{within_some}
+use Rattle.desk_words.proofs.Digits.{byte_no_first, byte_no_second, byte_both}
 use Rattle.desk_words.proofs.bytes.pair.Goals as goal
 
-pub returns-then-a-gt15 : goal.returns-then-a-gt15
-returns-then-a-gt15 c = let a = c.args in byte_no_first a.high a.low (omega arith)
+pub returns-in_err-a : goal.returns-in_err-a
+returns-in_err-a c = let a = c.args in c.from_residual.ensures ∙ byte_no_first a.high a.low c.in_err-a.ensures
 
-pub returns-then-b-gt15 : goal.returns-then-b-gt15
-returns-then-b-gt15 c = let a = c.args in byte_no_second a.high a.low (omega arith) (omega arith)
+pub returns-in_err-b : goal.returns-in_err-b
+returns-in_err-b c = let a = c.args in c.from_residual-in_err-b.ensures ∙ byte_no_second a.high a.low c.in_err-b.ensures
+
+pub overflow_mul-result : goal.overflow_mul-result
+overflow_mul-result c =
+    let a = within_some 15 _ _ c.in_ok-a.ensures in
+    omega arith
+
+pub overflow_add-result : goal.overflow_add-result
+overflow_add-result c =
+    let a = within_some 15 _ _ c.in_ok-a.ensures in
+    let b = within_some 15 _ _ c.in_ok-b.ensures in
+    omega arith
 
 pub returns : goal.returns
-returns c =
-    let a = c.args in
-    rw (c.hex-a.ensures, c.hex-b.ensures) (byte-both a.high a.low (omega arith) (omega arith))
+returns c = let a = c.args in byte_both a.high a.low _ _ c.in_ok-a.ensures c.in_ok-b.ensures

@@ -1,31 +1,19 @@
 -- `hand`: by the colon and the two numbers.
-use Rattle.std.proofs.Common.{arith, length-take-le, sym}
-use Rattle.desk_words.proofs.Filling.{told}
-use Rattle.desk_words.proofs.Reading.{none_above, limited}
+use Rattle.std.proofs.Common.{arith}
 use Rattle.desk_words.proofs.Handing.{no_colon, bad_side, bad_row, both-said}
 use Rattle.desk_words.proofs.lists.hand.Goals as goal
 
-pub returns-then-to-word : goal.returns-then-to-word
-returns-then-to-word c = let a = c.args in rw (no_colon a.word.now _ c.upto-to.ensures.value c.if-to-word.true)
+pub returns-in_err-side : goal.returns-in_err-side
+returns-in_err-side c = rw c.from_residual.ensures (bad_side _ _ _ c.cut.ensures c.in_err-side.ensures)
 
-pub slice_bounds-number-end : goal.slice_bounds-number-end
-slice_bounds-number-end c = sym (length-take-le _ _ (omega arith))
+pub returns-in_err-behind : goal.returns-in_err-behind
+returns-in_err-behind c = rw c.from_residual-in_err-behind.ensures (no_colon _ _ _ c.cut.ensures c.in_err-behind.was)
 
-pub returns-then-side-gt65535 : goal.returns-then-side-gt65535
-returns-then-side-gt65535 c =
-    let a = c.args in
-    let bad = none_above _ 65535 _ (limited 65535 _) c.number-side.ensures (omega arith) in
-    rw (bad_side a.word.now _ c.upto-to.ensures.value (omega arith) bad)
-
-pub returns-then-row-gt65535 : goal.returns-then-row-gt65535
-returns-then-row-gt65535 c =
-    let a = c.args in
-    let bad = none_above _ 65535 _ (limited 65535 _) c.number-row.ensures (omega arith) in
-    rw (bad_row a.word.now _ c.upto-to.ensures.value (omega arith) bad)
+pub returns-in_err-row : goal.returns-in_err-row
+returns-in_err-row c =
+    rw c.from_residual-in_err-row.ensures (bad_row _ _ _ c.cut.ensures _ c.in_ok-behind.was c.in_err-row.ensures)
 
 pub returns : goal.returns
 returns c =
-    let a = c.args in
-    let side = told _ 65536 _ c.number-side.ensures (omega arith) in
-    let row = told _ 65536 _ c.number-row.ensures (omega arith) in
-    rw (both-said a.word.now _ c.upto-to.ensures.value (omega arith) _ _ side row)
+    rw (c.from.ensures, c.from-2.ensures)
+    (both-said _ _ _ c.cut.ensures _ c.in_ok-behind.was _ _ c.in_ok-side.ensures c.in_ok-row.ensures)

@@ -1,36 +1,36 @@
-use Rattle.std.proofs.Common.{add-one, arith, length, refl, ◌≡◌}
-use Rattle.desk_words.proofs.Reading.{read_none, read_more, empty_none, bad_digit, too_large, all_read}
+use Rattle.std.proofs.Common.{arith, sym, length, ◌∙◌, ◌≡◌}
+use Rattle.desk_words.proofs.Reading.{read_none, read_digit, no_digit, nothing_read, some_left, too_large, all_read}
 use Rattle.desk_words.proofs.numbers.number.Goals as goal
 
-pub returns-then-word-eq0 : goal.returns-then-word-eq0
-returns-then-word-eq0 c = let a = c.args in rw (empty_none a.most a.word.now c.if-word-eq0.true)
+pub returns-then-is_empty : goal.returns-then-is_empty
+returns-then-is_empty c = let a = c.args in nothing_read a.most a.word.now c.if-is_empty.ensures
 
-pub loop-i-init : goal.loop-i-init
-loop-i-init c = (omega arith, omega arith, refl, omega arith, read_none c.args.word.now)
+pub loop-byte-init : goal.loop-byte-init
+loop-byte-init c = (omega arith, read_none c.args.word.now)
 
-pub returns-then-d-gt9 : goal.returns-then-d-gt9
-returns-then-d-gt9 c =
+pub returns-in_err-d : goal.returns-in_err-d
+returns-in_err-d c =
     let a = c.args in
-    let l = c.loop-i in
-    rw (bad_digit a.most a.word.now l.i l.x (omega arith) (omega arith) l.invariant.4)
+    let l = c.loop-byte in
+    c.from_residual.ensures ∙ no_digit a.most a.word.now l.byte-index l.x (omega arith) c.in_err-d.ensures l.invariant.1
 
-pub returns-then-none-x : goal.returns-then-none-x
-returns-then-none-x c =
+pub returns-then-from-x : goal.returns-then-from-x
+returns-then-from-x c =
     let a = c.args in
-    let l = c.loop-i in
-    let more = read_more a.word.now l.i l.x (omega arith) (omega arith) l.invariant.4 in
-    rw (too_large a.most a.word.now _ _ (omega arith) (omega arith) more)
+    let l = c.loop-byte in
+    let more = read_digit a.word.now l.byte-index l.x _ (omega arith) c.in_ok-d.ensures l.invariant.1 in
+    sym (too_large a.most a.word.now _ _ (omega arith) (omega arith) more)
 
-pub loop-i-preserved : goal.loop-i-preserved
-loop-i-preserved c =
+pub loop-byte-preserved : goal.loop-byte-preserved
+loop-byte-preserved c =
     let a = c.args in
-    let l = c.loop-i in
-    let more = read_more a.word.now l.i l.x (omega arith) (omega arith) l.invariant.4 in
-    (omega arith, omega arith, refl, omega arith, rw (add-one l.i, c.digit-d.ensures) more)
+    let l = c.loop-byte in
+    let more = read_digit a.word.now l.byte-index l.x _ (omega arith) c.in_ok-d.ensures l.invariant.1 in
+    (omega arith, rw c.from.ensures more)
 
 pub returns : goal.returns
 returns c =
     let a = c.args in
-    let l = c.loop-i in
-    let end : l.i ≡ length a.word.now = omega arith in
-    rw (all_read a.most a.word.now l.x (omega arith) (omega arith) (rw end at l.invariant.4))
+    let l = c.loop-byte in
+    let end : l.byte-index ≡ length a.word.now = omega arith in
+    sym (all_read a.most a.word.now l.x (some_left a.word.now c.if-is_empty.ensures) (omega arith) (rw end at l.invariant.1))

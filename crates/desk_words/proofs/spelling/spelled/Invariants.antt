@@ -1,10 +1,7 @@
 -- `spelled`: the digits of the first k bytes stand in the first places.
-use Rattle.std.proofs.Common.{length, take, ◌*◌, ◌-◌, ◌≡◌, ◌≤◌}
+use Rattle.std.proofs.Common.{length, take, ◌*◌, ◌≡◌}
 use Rattle.desk_words.specs.Bytes.{spelling}
 use Rattle.desk_words.proofs.spelling.spelled.Given as goal
 
 abbrev pub invariant-loop-k : goal.invariant-loop-k
-invariant-loop-k l = (l.k ≤ l.n) × (length l.text ≡ 64) × (take (2 * l.k) l.text ≡ spelling (take l.k l.s))
-
-abbrev pub decreases-loop-k : goal.decreases-loop-k
-decreases-loop-k l = l.n - l.k
+invariant-loop-k l = (length l.text ≡ 64) × (take (2 * l.k) l.text ≡ spelling (take l.k l.s))

@@ -1,36 +1,38 @@
 -- `signed`: by the dash in front, and the number that the digits say.
-use Rattle.std.proofs.Common.{arith, ◌∙◌}
-use mir.Syntax.{w64}
-use mir.ValLaws.{to_z_pos, to_z-of_z}
-use Rattle.desk_words.proofs.Reading.{one_more}
-use Rattle.desk_words.proofs.Signing.{no_word, bare_told, dash_bad, dash-told, opposite, opposite_fits}
+use Rattle.std.proofs.Common.{arith, ap, ◌∙◌, Some}
+use Rattle.std.proofs.lemmas.Int.{ints, to_z-of_z}
+use Rattle.desk_words.proofs.Reading.{bounded}
+use Rattle.desk_words.proofs.Signing.{dash_told, dash_none, bare_told, bare_none, narrowed, widened}
 use Rattle.desk_words.proofs.tables.signed.Goals as goal
 
-pub returns-then-word-eq0 : goal.returns-then-word-eq0
-returns-then-word-eq0 c = rw (no_word c.args.word.now c.if-word-eq0.true)
+pub returns-in_err-x-in-Some : goal.returns-in_err-x-in-Some
+returns-in_err-x-in-Some c =
+    let h = c.in-Some.ensures.cases in
+    rw c.from_residual.ensures (dash_none c.args.word.now c.in-Some.digits.now h.0 h.1 c.in_err-x-in-Some.ensures)
 
 pub overflow_cast-result : goal.overflow_cast-result
 overflow_cast-result c =
-    let word = c.args.word.now in
-    omega (arith, one_more 2147483647 word c.number.result c.number.ensures)
+    let h = bounded 2147483648 _ _ c.in_ok-x-in-Some.ensures in
+    omega (arith, ints)
 
-pub returns-then-word-ne45 : goal.returns-then-word-ne45
-returns-then-word-ne45 c =
-    let word = c.args.word.now in
-    to_z_pos w64 c.number.result (overflow_cast-result c).sfits
-    ∙ bare_told word c.number.result c.if-word-ne45.true c.number.ensures
+pub returns-in_ok-x-in-Some : goal.returns-in_ok-x-in-Some
+returns-in_ok-x-in-Some c =
+    let h = c.in-Some.ensures.cases in
+    let x = c.in_ok-x-in-Some.x in
+    ap Some (narrowed x c.from.result c.from.ensures (bounded 2147483648 _ _ c.in_ok-x-in-Some.ensures))
+    ∙ dash_told c.args.word.now c.in-Some.digits.now x h.0 h.1 c.in_ok-x-in-Some.ensures
 
-pub returns-then-x-gt2147483648 : goal.returns-then-x-gt2147483648
-returns-then-x-gt2147483648 c =
-    let word = c.args.word.now in
-    rw (dash_bad word (omega arith) c.if-word-ne45.false _ c.number-x.ensures (omega arith))
+pub returns-in_err-x-in-None : goal.returns-in_err-x-in-None
+returns-in_err-x-in-None c =
+    rw c.from_residual-in_err-x-in-None.ensures (bare_none c.args.word.now c.in-None.ensures.cases c.in_err-x-in-None.ensures)
 
-pub overflow_sub-result : goal.overflow_sub-result
-overflow_sub-result c = opposite_fits c.number-x.result (omega arith)
+pub overflow_cast-result-in-None : goal.overflow_cast-result-in-None
+overflow_cast-result-in-None c =
+    let h = bounded 2147483647 _ _ c.in_ok-x-in-None.ensures in
+    omega (arith, ints)
 
-pub returns : goal.returns
-returns c =
-    let word = c.args.word.now in
-    let x = c.number-x.result in
-    to_z-of_z w64 _ (overflow_sub-result c) ∙ opposite x (omega arith)
-    ∙ rw (dash-told word (omega arith) c.if-word-ne45.false x c.number-x.ensures (omega arith))
+pub returns-in_ok-x-in-None : goal.returns-in_ok-x-in-None
+returns-in_ok-x-in-None c =
+    let x = c.in_ok-x-in-None.x in
+    ap Some (widened x (bounded 2147483647 _ _ c.in_ok-x-in-None.ensures))
+    ∙ bare_told c.args.word.now x c.in-None.ensures.cases c.in_ok-x-in-None.ensures

@@ -1,34 +1,19 @@
-use Rattle.std.proofs.Common.{add-one, arith, drop, length, sym, ◌∙◌, ◌≡◌}
-use Rattle.desk_words.specs.Words.{pieces, word_in, place_of}
-use Rattle.desk_words.proofs.Parting.{place_here, place-next, place_end, not_alike}
+-- `place`: what `position` says of the parts that `split` yields.
+use Rattle.std.proofs.Common.{eqb, rules, tests, sym}
+use Rattle.std.proofs.lemmas.Iterator.Search.{position_from_yields_List}
+use Rattle.std.proofs.lemmas.Iterator.Splits.{YieldsList-from_slice_split}
+use Rattle.std.specs.Cmp.Lexicographic.{pointwise}
+use Rattle.desk_words.specs.Words.{placed}
+use Rattle.desk_words.proofs.Parting.{parts_split, name_found}
 use Rattle.desk_words.proofs.words.place.Goals as goal
 
-pub loop-k-init : goal.loop-k-init
-loop-k-init c = omega arith
-
-pub returns-then-same : goal.returns-then-same
-unfolding word_in
-returns-then-same c =
-    let a = c.args in
-    let k = c.loop-k.k in
-    let is = sym c.word.ensures ∙ c.same.ensures.0 c.if-same.true in
-    let here = place_here a.name.now (pieces 32 a.line.now) k (omega arith) is in
-    omega arith
-
-pub loop-k-preserved : goal.loop-k-preserved
-unfolding word_in
-loop-k-preserved c =
-    let a = c.args in
-    let k = c.loop-k.k in
-    let other = not_alike _ a.name.now _ c.if-same.false (λ q. c.same.ensures.1 (c.word.ensures ∙ q)) in
-    let next = place-next a.name.now (pieces 32 a.line.now) k (omega arith) other in
-    rw (add-one k) (omega arith)
-
 pub returns : goal.returns
+unfolding placed
 returns c =
-    let a = c.args in
-    let k = c.loop-k.k in
-    let end : k ≡ length (pieces 32 a.line.now) = omega arith in
-    let none : place_of a.name.now (drop k (pieces 32 a.line.now)) ≡ 0 =
-    rw end (place_end a.name.now (pieces 32 a.line.now)) in
-    omega arith
+    let line = c.args.line.now in
+    let name = c.args.name.now in
+    let split = c.split.ensures in
+    rw (name_found name _, parts_split 32 line)
+    (position_from_yields_List (λ w. pointwise eqb w name) _ _ _ c.position.ensures.ran
+    (YieldsList-from_slice_split _ (λ b. eqb b 32) line split.rest split.done split.closure (λ x r q k. search (rules, tests)))
+    (λ x b q k. search (rules, tests)))

@@ -1,21 +1,26 @@
-use Rattle.std.proofs.Common.{arith, sym, ◌∙◌, ◌≡◌}
-use Rattle.desk_words.proofs.Parting.{words_first, words_next, word_at, word_here}
+-- `word`: what `nth` says of the parts that `split` yields.
+use Rattle.std.proofs.Common.{eqb, rules, tests, sym, [], Some, None}
+use Rattle.std.proofs.lemmas.Iterator.Consumers.{nth_from_yields_List}
+use Rattle.std.proofs.lemmas.Iterator.Splits.{YieldsList-from_slice_split}
+use Rattle.std.proofs.lemmas.Option.{get_or_from_slice_get}
+use Rattle.desk_words.specs.Words.{word_in}
+use Rattle.desk_words.proofs.Parting.{parts_split, past_the_end}
 use Rattle.desk_words.proofs.words.word.Goals as goal
 
-pub loop-j-init : goal.loop-j-init
-loop-j-init c = (omega arith, omega arith, words_first c.args.line.now)
-
-pub loop-j-preserved : goal.loop-j-preserved
-loop-j-preserved c =
+pub returns-in-Some : goal.returns-in-Some
+unfolding word_in
+returns-in-Some c =
     let line = c.args.line.now in
-    let l = c.loop-j in
-    let next = words_next line l.j l.from c.after-from.result c.after-from.ensures.line_value l.invariant.2 in
-    (omega arith, c.after-from.ensures.upper_bound, next)
+    let split = c.split.ensures in
+    let here = nth_from_yields_List (Some c.in-Some.word) c.nth.new.self c.args.k c.in-Some.ensures.ran
+    (YieldsList-from_slice_split _ (λ b. eqb b 32) line split.rest split.done split.closure (λ x r q k. search (rules, tests))) in
+    rw (parts_split 32 line) (sym (get_or_from_slice_get _ c.args.k c.in-Some.word.now [] (sym here)))
 
-pub returns : goal.returns
-returns c =
-    let a = c.args in
-    let l = c.loop-j in
-    let end : a.k ≡ l.j = omega arith in
-    word_here a.line.now l.from c.upto-to.result c.upto-to.ensures.value
-    ∙ rw end (sym (word_at a.line.now l.j l.from l.invariant.2))
+pub returns-in-None : goal.returns-in-None
+unfolding word_in
+returns-in-None c =
+    let line = c.args.line.now in
+    let split = c.split.ensures in
+    let here = nth_from_yields_List None c.nth.new.self c.args.k c.in-None.ensures.ran
+    (YieldsList-from_slice_split _ (λ b. eqb b 32) line split.rest split.done split.closure (λ x r q k. search (rules, tests))) in
+    rw (parts_split 32 line) (past_the_end _ c.args.k [] here)

@@ -3,4 +3,4 @@ use Rattle.work_text.proofs.Joined.{put-joined}
 use Rattle.work_text.proofs.putting.put_next.Goals as goal
 
 pub returns : goal.returns
-returns c = put-joined c.put-from.ensures c.put_number.ensures
+returns c = rw (← c.from.ensures) (put-joined c.put-from.ensures c.put_number.ensures)
