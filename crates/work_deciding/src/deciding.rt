@@ -18,6 +18,7 @@ pub fn own_crossings(seen: &[u16; 512], at: usize, first: usize, second: usize) 
     if second <= first {
         return count_across(seen, at, first, next, second);
     }
+    // No `try_from`: it would add a branch that is never taken.
     let pairs = (first * second) as u32;
     pairs - count_across(seen, next, second, at, first)
 }

@@ -69,6 +69,7 @@ pub fn first_turn(left: &mut OneSide, right: &mut OneSide, links: &[u16; 512], s
 
 // Frees a side, in its rows and in its layout; the other side stands. Answers the counts before and after, which are
 // the sums of the side's own crossings.
+// It takes arrays and no `OneSide`: a struct with the arrays for counts and orders would be moved by value.
 pub fn free_side(
     left: &mut [u16; 1023],
     right: &mut [u16; 1023],
