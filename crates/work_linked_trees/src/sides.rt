@@ -1,7 +1,7 @@
 // One side of two linked trees in memory.
 ghost use Rattle.std.specs.Prelude.{◌≡◌, ◌+◌, length};
 ghost use Rattle.work_trees.specs.Rows.{GoodRows, LeafCounts, size};
-ghost use Rattle.work_linked_trees.specs.Once.{once};
+ghost use Rattle.work_trees.specs.Once.{once};
 
 use work_trees::{count_leaves, leaf_order};
 

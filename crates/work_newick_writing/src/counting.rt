@@ -4,7 +4,7 @@ ghost use Rattle.std.specs.Prelude.{◌≡◌, ◌+◌, ◌*◌, ◌≤◌, ◌<
 ghost use Rattle.newick.specs.Writing.{decimal, sentence_of, text_of};
 ghost use Rattle.work_trees.specs.Rows.{GoodRows, tree_of};
 ghost use Rattle.work_newick_writing.specs.Counts.{TextCounts, bytes_of};
-ghost use Rattle.work_newick_writing.specs.Once.{once};
+ghost use Rattle.work_trees.specs.Once.{once};
 
 // How many digits a leaf's number takes, which is below 1,000.
 #[tactic(auto, using(crate::proofs::Decimal::decimal_digits))]

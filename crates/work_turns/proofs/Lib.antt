@@ -1,2 +1,1 @@
-pub mod Alternating
 pub mod TurnsTaken

@@ -4,7 +4,7 @@ use Rattle.work_trees.specs.Rows.{size}
 use Rattle.work_linked_trees.specs.Memory.{SideFreed}
 use Rattle.work_linked_trees.specs.Sides.{layouts_in, tree_in}
 use Rattle.work_linked_trees.proofs.SideFreed.{freed_then}
-use Rattle.work_turns.proofs.Alternating.{turning_gain, turning_stop, turning_end}
+use Rattle.tanglegram.proofs.Alternating.{turning_gain, turning_stop, turning_end}
 use Rattle.work_turns.proofs.running.go_on.Goals.{After-take_turn-turn}
 use Rattle.work_turns.proofs.running.go_on.Goals as goal
 

@@ -3,7 +3,7 @@ use Rattle.tanglegram.specs.Table.{crossings, free}
 use Rattle.work_trees.specs.Rows.{size}
 use Rattle.work_linked_trees.specs.Memory.{here, InMemory}
 use Rattle.work_linked_trees.specs.Sides.{AtHand, layouts_in, SameArrays, tree_in}
-use Rattle.work_turns.proofs.Alternating.{RunUnderWay}
+use Rattle.tanglegram.proofs.Alternating.{RunUnderWay}
 use Rattle.work_turns.proofs.running.go_on.Given as goal
 
 abbrev pub invariant-loop-taken : goal.invariant-loop-taken

@@ -1,6 +1,6 @@
 -- `take_turns`: the first turn frees the left, and the others come after it.
 use Rattle.std.proofs.Common.{rules, ◌∙◌}
-use Rattle.work_turns.proofs.Alternating.{first_turn}
+use Rattle.tanglegram.proofs.Alternating.{first_turn}
 use Rattle.work_turns.proofs.TurnsTaken.{gone_then, lent-back}
 use Rattle.work_turns.proofs.running.take_turns.Goals as goal
 
