@@ -1,5 +1,6 @@
 // Zeros to put the input and what its words say into. A line of 1,048,576 bytes says fewer bytes, numbers and hands.
-// Each is a function of its own: with an array written at its place, the check of the function there doesn't end.
+// Each is a function of its own: with the arrays written at their places, the check of `desk_merge` had not ended after
+// five minutes, and takes one with these.
 
 // The bytes of input that are answered.
 pub const MOST: usize = 1048576;
