@@ -2,19 +2,19 @@
 use Prim.Native.Nat.{ℕ, ◌+◌, ◌-◌, ◌*◌, ◌≤◌, ◌<◌}
 use mathlib.Core.Path.{◌≡◌, refl, sym, ap, ◌∙◌, subst}
 use mathlib.Core.Logic.{◌≢◌}
-use mathlib.Core.Bool.{true, not}
+use mathlib.Core.Bool.{Bool, true, false, not}
 use mathlib.Core.List.{List, [], ◌∷◌, ◌++◌}
 use native.Mathlib.Omega.{arith}
 use borrow.Author.Tests.{lt-ltb, le-ltb, eq-eqb, eqb-true, ltb-false}
 use lib.Dec.{eqb, ltb}
-use lib.ListN.{length, set, length-append}
+use lib.ListN.{length, set, drop, length-append}
 use lib.Seq.{sets}
 use Rattle.record_fields.specs.Letters.{letter_t, letter_g, letter_p}
 use Rattle.record_fields.specs.Fields.{version_at, hold_at, size_at}
 use Rattle.record_fields.specs.Fields.{split, right_at, links_at, left_layout_at, right_layout_at, length_of, Parts, given, opening, packed}
 use Rattle.record_fields.specs.Refusals.{◌when◌else◌, is_hold, no_size, contents_refusal}
 use Rattle.record_fields.specs.Told.{told_in, ToldContents, tells_row}
-use Rattle.record_fields.specs.Refused.{NumberAndRow, refused}
+use Rattle.record_fields.specs.Refused.{NumberAndRow, refused, refused_row}
 use Rattle.record_fields.proofs.Told.{Alone, differs, told-alone, told_none, alone_when, alone_0, each_else}
 use Rattle.record_fields.proofs.Heading.{sized, unsized, none_first, not_no}
 use Rattle.work_trees.proofs.Stores.{sets-append}
@@ -82,6 +82,33 @@ shape_alone hold n left right links left_layout right_layout =
     (alone_when (not (eqb links n)) 6 refl (alone_when (not (eqb left_layout (n - 1))) 6 refl
     (alone_when (not (eqb right_layout (n - 1))) 6 refl alone_0))))))
 
+six : (b : Bool) {r : ℕ} → (r ≢ 0 → 6 ≡ r) → (6 when b else r) ≢ 0 → 6 ≡ (6 when b else r)
+six true q z = refl
+six false q z = q z
+
+-- for code that tests the hold, n and then the lengths
+module _ (P : Parts) where
+  pub shape_4 : is_hold P.hold ≡ false → 4 ≡ parts_shape_refusal P
+  unfolding shape_refusal
+  shape_4 e = rw e refl
+
+  module _ (hold : is_hold P.hold ≡ true) where
+    pub shape_5 : no_size P.size ≡ true → 5 ≡ parts_shape_refusal P
+    unfolding shape_refusal
+    shape_5 e = rw (hold, e) refl
+
+    -- some length is wrong
+    pub shape_6 : no_size P.size ≡ false → (ShapedParts P → ⊥) → 6 ≡ parts_shape_refusal P
+    unfolding shape_refusal
+    shape_6 size wrong =
+        let n = P.size in
+        let some : parts_shape_refusal P ≢ 0 = λ z. wrong (shape_good P z).1 in
+        rw (hold, size)
+        (six (not (eqb (length P.left_rows) (2 * (n - 1)))) (six (not (eqb (length P.right_rows) (2 * (n - 1))))
+        (six (not (eqb (length P.links) n)) (six (not (eqb (length P.left_layout) (n - 1)))
+        (six (not (eqb (length P.right_layout) (n - 1))) (λ z. absurd (z refl))))))
+        (rw (hold, size) at some))
+
 parts_shape_alone : (P : Parts) → Alone (parts_shape_refusal P)
 parts_shape_alone P =
     shape_alone P.hold P.size (length P.left_rows) (length P.right_rows) (length P.links) (length P.left_layout)
@@ -98,11 +125,14 @@ sets_then : (vs ws l : List ℕ) (at next : ℕ) → at + length vs ≡ next →
 sets_then vs ws l at next e = sets-append vs ws l at ∙ ap (λ k. sets (sets l at vs) k ws) e
 
 -- the first eight bytes, stored from the first place on
-pub opening_stored : (h n : ℕ) (l : List ℕ) {o o' : List ℕ} →
-    o ≡ sets (sets l 0 (letter_t ∷ letter_g ∷ letter_p ∷ [])) version_at (split (1 ∷ [])) →
+pub opening_stored : (h n : ℕ) (l : List ℕ) {o o' : List ℕ} → 8 ≤ length l →
+    o ≡ sets ((letter_t ∷ letter_g ∷ letter_p ∷ []) ++ drop 3 l) version_at (split (1 ∷ [])) →
     o' ≡ sets (set o hold_at h) size_at (split (n ∷ [])) → o' ≡ sets l 0 (opening h n)
 unfolding split
-opening_stored h n l e f = f ∙ ap (λ r. sets (set r hold_at h) size_at (split (n ∷ []))) e
+opening_stored h n l long e f =
+    let mark = letter_t ∷ letter_g ∷ letter_p ∷ [] in
+    let o = e ∙ ap (λ r. sets r version_at (split (1 ∷ []))) (sym (sets_front l mark (omega arith))) in
+    f ∙ ap (λ r. sets (set r hold_at h) size_at (split (n ∷ []))) o
 
 -- stored part after part, each where the one before it ends
 pub stored : (h n : ℕ) (left right links left_layout right_layout : List ℕ) → Shaped n left right links left_layout right_layout →
@@ -126,6 +156,9 @@ stored h n left right links left_layout right_layout g l e₀ e₁ e₂ e₃ e�
     ∙ sets_then left_layout right_layout l₃ (left_layout_at n) (right_layout_at n) (omega arith)))
 
 -- ---- the call
+
+none-told : {k row : ℕ} → refused 0 ≡ refused_row k row → k ≡ 0
+none-told e = sym (ap (λ (a : NumberAndRow). a.number) e)
 
 module _ (P : Parts) (out : List ℕ) where
   packing_shape : parts_shape_refusal P ≢ 0 → parts_shape_refusal P ≡ pack_refusal P out
@@ -165,26 +198,27 @@ module _ (P : Parts) (out : List ℕ) where
   pack-refused : {k : ℕ} {answer : NumberAndRow} → k ≡ pack_refusal P out → k ≢ 0 → answer ≡ told_in P k → Packs P out answer out
   pack-refused {k} e h r = record { answers = r ∙ ap (told_in P) e; afterwards = rw (← e) (lent-refused k (packed P) out h) }
 
-  -- by the content
-  pub pack_contents : {answer : NumberAndRow} → parts_shape_refusal P ≡ 0 → ToldContents P answer → answer.number ≢ 0 → Packs P out answer out
-  pack_contents s t h =
-      let some : contents_refusal P ≢ 0 = λ z. h (ap (λ a. a.number) t.told ∙ z) in
-      pack-refused (packing_contents s some) some t.told
+  pub pack_shape : {k : ℕ} → k ≡ parts_shape_refusal P → k ≢ 0 → Packs P out (refused k) out
+  pack_shape e h = pack-refused (e ∙ packing_shape (λ z. h (e ∙ z))) h (told-alone P (subst Alone (sym e) (parts_shape_alone P)))
 
-  -- a refusal without a row; the shape's is one
-  pub pack-alone : {k : ℕ} {answer : NumberAndRow} → k ≡ pack_refusal P out → k ≢ 0 → Alone k → answer ≡ refused k → Packs P out answer out
-  pack-alone e h a r = pack-refused e h (r ∙ told-alone P a)
+  -- parts that have the right lengths
+  module _ (shape : refused 0 ≡ refused (parts_shape_refusal P)) where
+    pub pack_contents : {answer : NumberAndRow} → ToldContents P answer → answer.number ≢ 0 → Packs P out answer out
+    pack_contents t h =
+        let some : contents_refusal P ≢ 0 = λ z. h (ap (λ (a : NumberAndRow). a.number) t.told ∙ z) in
+        pack-refused (packing_contents (none-told shape) some) some t.told
 
-  pub pack_shape : {k : ℕ} {answer : NumberAndRow} → k ≡ parts_shape_refusal P → k ≢ 0 → answer ≡ refused k → Packs P out answer out
-  pack_shape e h = pack-alone (e ∙ packing_shape (λ z. h (e ∙ z))) h (subst Alone (sym e) (parts_shape_alone P))
+    module _ (contents : ToldContents P (refused 0)) where
+      pub pack-no-room : length out < length_of P.size → Packs P out (refused 14) out
+      pack-no-room h =
+          pack-refused (packing_14 (none-told shape) (none-told contents.told) h) (omega arith) (told-alone P (record { alone = refl }))
 
-  pub pack-accepted : {answer : NumberAndRow} {out' : List ℕ} → 0 ≡ pack_refusal P out → answer ≡ refused 0 → out' ≡ sets out 0 (packed P) →
-      Packs P out answer out'
-  pack-accepted e r w =
-      let z = packing_good (sym e) in
-      let g = (shape_good P z.0).1 in
-      let h : length (packed P) ≤ length out = omega (arith, length-packed P g, z.2) in
-      record {
-        answers = r ∙ told_none P (sym e);
-        afterwards = w ∙ sets_front out (packed P) h ∙ lent-accepted (pack_refusal P out) (packed P) out (sym e);
-      }
+      pub pack-written : {out' : List ℕ} → length_of P.size ≤ length out → out' ≡ sets out 0 (packed P) → Packs P out (refused 0) out'
+      pack-written room w =
+          let e = packing_0 (none-told shape) (none-told contents.told) room in
+          let g = (shape_good P (none-told shape)).1 in
+          let h : length (packed P) ≤ length out = omega (arith, length-packed P g) in
+          record {
+            answers = told_none P (sym e);
+            afterwards = w ∙ sets_front out (packed P) h ∙ lent-accepted (pack_refusal P out) (packed P) out (sym e);
+          }

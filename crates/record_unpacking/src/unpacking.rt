@@ -1,95 +1,65 @@
 // Unpacking: a record's parts, into five buffers.
 ghost use Rattle.std.specs.Prelude.{◌≡◌, ◌≤◌, ◌*◌, ◌-◌, length};
-ghost use Rattle.std.proofs.lemmas.List.Edits.{sets};
-ghost use Rattle.record_unpacking.specs.Calls.{unpacked_none, Unpacks};
-ghost use Rattle.record_unpacking.specs.Refusals.{room_refusal};
+ghost use Rattle.record_unpacking.specs.Answers.{unpacked};
+ghost use Rattle.record_unpacking.specs.Calls.{Unpacks};
 ghost use Rattle.record_fields.specs.Fields.{parts_of, Sized};
+ghost use Rattle.record_fields.specs.Refused.{refused, told};
 
-use record::reading::refusal_number;
-use record::told;
+use record::{Header, read};
 use record_fields::copying::{bytes_in, numbers_out};
 use record_fields::fields::{
-    LEFT_ROWS_AT, hold_of, left_layout_at, links_at, right_layout_at, right_rows_at, size_of,
+    LEFT_ROWS_AT, left_layout_at, links_at, right_layout_at, right_rows_at,
 };
-use record_fields::refusal::{ROOM, Refusal, refused};
+use record_fields::refusal::Refusal;
 
-// What unpacking answers beside the buffers; hold and n are 0 where it refuses.
+// The buffers that a record's parts are put into.
 #[derive(Drop)]
-pub struct Unpacked {
-    pub refusal: Refusal,
-    pub hold: u8,
-    pub n: u16,
+struct Buffers<'a> {
+    left: &'a mut [u16],
+    right: &'a mut [u16],
+    links: &'a mut [u16],
+    leftlayout: &'a mut [u8],
+    rightlayout: &'a mut [u8],
 }
 
-// What a refused unpacking answers.
-fn unpacked_none(refusal: Refusal) -> Unpacked
-    ensures { result ≡ unpacked_none refusal }
-{
-    Unpacked {
-        refusal: refusal,
-        hold: 0,
-        n: 0,
-    }
-}
+impl<'a> Buffers<'a> {
+    ghost use Rattle.record_unpacking.specs.Buffers.{Filled, room_in, SameBuffers};
 
-// 14 where a buffer of that many places is too short for its part of a record over n leaves, or 0.
-fn room_number(
-    n: u16,
-    left: usize,
-    right: usize,
-    links: usize,
-    leftlayout: usize,
-    rightlayout: usize,
-) -> u16
-    requires { 1 ≤ n }
-    ensures { result ≡ room_refusal n left right links leftlayout rightlayout }
-{
-    let m = n as usize - 1;
-    if left < 2 * m {
-        return ROOM;
+    // Tests the room: each needs the places for its part of a record over n leaves.
+    fn check_room(&self, n: u16) -> Result<(), Refusal>
+        requires { 1 ≤ n }
+        ensures { told result ≡ refused (room_in n self.now) }
+    {
+        let m = n as usize - 1;
+        if self.left.len() < 2 * m
+            || self.right.len() < 2 * m
+            || self.links.len() < n as usize
+            || self.leftlayout.len() < m
+            || self.rightlayout.len() < m
+        {
+            return Err(Refusal::Room);
+        }
+        Ok(())
     }
-    if right < 2 * m {
-        return ROOM;
-    }
-    if links < n as usize {
-        return ROOM;
-    }
-    if leftlayout < m {
-        return ROOM;
-    }
-    if rightlayout < m {
-        return ROOM;
-    }
-    0
-}
 
-// Writes the parts of a record over n leaves to the buffers' first places.
-fn write_parts(
-    s: &[u8],
-    n: u16,
-    left: &mut [u16],
-    right: &mut [u16],
-    links: &mut [u16],
-    leftlayout: &mut [u8],
-    rightlayout: &mut [u8],
-)
-    requires sized { Sized s.now n }
-    requires n_in_bounds { (2 * (n - 1) ≤ length left.old) × (2 * (n - 1) ≤ length right.old) × (n ≤ length links.old) }
-    requires n_in_bounds_2 { (n - 1 ≤ length leftlayout.old) × (n - 1 ≤ length rightlayout.old) }
-    ensures left_after { left.new ≡ sets left.old 0 (parts_of s.now n).left_rows }
-    ensures right_after { right.new ≡ sets right.old 0 (parts_of s.now n).right_rows }
-    ensures links_after { links.new ≡ sets links.old 0 (parts_of s.now n).links }
-    ensures leftlayout_after { leftlayout.new ≡ sets leftlayout.old 0 (parts_of s.now n).left_layout }
-    ensures rightlayout_after { rightlayout.new ≡ sets rightlayout.old 0 (parts_of s.now n).right_layout }
-{
-    let m = n as usize - 1;
-    numbers_out(s, LEFT_ROWS_AT, 2 * m, left);
-    numbers_out(s, right_rows_at(n), 2 * m, right);
-    numbers_out(s, links_at(n), n as usize, links);
-    let at = left_layout_at(n);
-    let last = right_layout_at(n);
-    bytes_in(&s[at..last], leftlayout, 0);
-    bytes_in(&s[last..], rightlayout, 0);
+    // Writes the parts of a record over n leaves to their first places.
+    fn fill(&mut self, s: &[u8], n: u16)
+        requires sized { Sized s.now n }
+        requires n_in_bounds { (2 * (n - 1) ≤ length self.old.left.now) × (2 * (n - 1) ≤ length self.old.right.now)
+            × (n ≤ length self.old.links.now) }
+        requires n_in_bounds_2 { (n - 1 ≤ length self.old.leftlayout.now) × (n - 1 ≤ length self.old.rightlayout.now) }
+        ensures filled { Filled (parts_of s.now n) self.old self.new }
+        ensures same_buffers { SameBuffers self.old self.new }
+    {
+        let m = n as usize - 1;
+        numbers_out(s, LEFT_ROWS_AT, 2 * m, self.left);
+        numbers_out(s, right_rows_at(n), 2 * m, self.right);
+        numbers_out(s, links_at(n), n as usize, self.links);
+        let at = left_layout_at(n);
+        let last = right_layout_at(n);
+        bytes_in(&s[at..last], self.leftlayout, 0);
+        bytes_in(&s[last..], self.rightlayout, 0);
+    }
 }
 
 // Unpacks any bytes: writes the rows of each tree, the links and the layouts to the buffers' first places, if the
@@ -101,41 +71,19 @@ pub fn unpack(
     links: &mut [u16],
     leftlayout: &mut [u8],
     rightlayout: &mut [u8],
-) -> Unpacked
-    ensures { Unpacks
-        s.now
-        left.old
-        right.old
-        links.old
-        leftlayout.old
-        rightlayout.old
-        result
-        left.new
-        right.new
-        links.new
-        leftlayout.new
-        rightlayout.new }
+) -> Result<Header, Refusal>
+    ensures { Unpacks s.now left.old right.old links.old leftlayout.old rightlayout.old (unpacked result)
+        left.new right.new links.new leftlayout.new rightlayout.new }
 {
-    let k = refusal_number(s);
-    if k != 0 {
-        return unpacked_none(told(s, k));
-    }
-    let n = size_of(s);
-    let room = room_number(
-        n,
-        left.len(),
-        right.len(),
-        links.len(),
-        leftlayout.len(),
-        rightlayout.len(),
-    );
-    if room != 0 {
-        return unpacked_none(told(s, room));
-    }
-    write_parts(s, n, left, right, links, leftlayout, rightlayout);
-    Unpacked {
-        refusal: refused(0),
-        hold: hold_of(s),
-        n: n,
-    }
+    let header = read(s)?;
+    let mut buffers = Buffers {
+        left,
+        right,
+        links,
+        leftlayout,
+        rightlayout,
+    };
+    buffers.check_room(header.n)?;
+    buffers.fill(s, header.n);
+    Ok(header)
 }

@@ -1,48 +1,31 @@
 -- `pack` answers the first refusal, or writes the record.
-use Rattle.std.proofs.Common.{ap, arith, refl, sym, ◌∙◌}
-use Rattle.record_packing.proofs.Packed.{shape_some, shape_good}
-use Rattle.record_packing.proofs.Packed.{packing_14, packing_0, pack_contents, pack-alone, pack_shape}
-use Rattle.record_packing.proofs.Packed.{pack-accepted}
+use Rattle.std.proofs.Common.{refl}
+use Rattle.std.proofs.lemmas.Result.{err_from_is_err_and}
+use Rattle.record_fields.proofs.Refused.{refused-some, refuses}
+use Rattle.record_packing.proofs.Packed.{pack_shape, pack_contents, pack-no-room, pack-written}
 use Rattle.record_packing.proofs.packing.pack.Goals as goal
 
-pub returns-then-k-ne0 : goal.returns-then-k-ne0
-returns-then-k-ne0 c =
-    pack_shape _ _ c.shape_number-k.ensures c.if-k-ne0.true c.refused.ensures
+pub returns-in_err-parts : goal.returns-in_err-parts
+returns-in_err-parts c =
+    let p = err_from_is_err_and c.from_residual.result c.from_residual.ensures.1 in
+    let t = c.in_err-parts.ensures.tells in
+    rw (p.1, p.2, t) (pack_shape _ _ refl (refuses _ t))
 
-pub lists_refusal-refusal-requires : goal.lists_refusal-refusal-requires
-lists_refusal-refusal-requires c =
-    (shape_good _ (sym c.shape_number-k.ensures ∙ c.if-k-ne0.false)).1
-
-pub returns-then-refusal-ne0 : goal.returns-then-refusal-ne0
-returns-then-refusal-ne0 c =
-    let a = c.args in
-    let s = sym c.shape_number-k.ensures ∙ c.if-k-ne0.false in
-    pack_contents _ _ s (c.lists_refusal-refusal.ensures a.hold) c.if-refusal-ne0.true
-
-pub length_of-requires : goal.length_of-requires
-length_of-requires c =
-    shape_some _ _ _ _ _ _ _ (sym c.shape_number-k.ensures ∙ c.if-k-ne0.false)
+pub returns-in_err-test : goal.returns-in_err-test
+returns-in_err-test c =
+    let p = err_from_is_err_and c.from_residual-in_err-test.result c.from_residual-in_err-test.ensures.1 in
+    let parts = c.in_ok-parts.ensures in
+    rw (p.1, p.2) (pack_contents _ _ parts.tells (rw parts.keeps at c.in_err-test.ensures) (refused-some _))
 
 pub returns-then-out-length_of : goal.returns-then-out-length_of
 returns-then-out-length_of c =
-    let a = c.args in
-    let s = sym c.shape_number-k.ensures ∙ c.if-k-ne0.false in
-    let l = sym (ap (λ x. x.number) (c.lists_refusal-refusal.ensures a.hold).told) ∙ c.if-refusal-ne0.false in
+    let parts = c.in_ok-parts.ensures in
     let n = c.length_of.ensures in
-    pack-alone _ _ (packing_14 _ _ s l (rw n at c.if-out-length_of.true)) (omega arith) (record { alone = refl }) c.refused-then-out-length_of.ensures
-
-pub write_record-requires : goal.write_record-requires
-write_record-requires c =
-    let n = c.length_of.ensures in
-    record {
-      shaped = (shape_good _ (sym c.shape_number-k.ensures ∙ c.if-k-ne0.false)).1;
-      n_in_bounds = rw n at c.if-out-length_of.false;
-    }
+    pack-no-room _ _ parts.tells (rw parts.keeps at c.in_ok-test.ensures) (rw n at c.if-out-length_of.true)
 
 pub returns : goal.returns
 returns c =
-    let a = c.args in
-    let s = sym c.shape_number-k.ensures ∙ c.if-k-ne0.false in
-    let l = sym (ap (λ x. x.number) (c.lists_refusal-refusal.ensures a.hold).told) ∙ c.if-refusal-ne0.false in
+    let parts = c.in_ok-parts.ensures in
     let n = c.length_of.ensures in
-    pack-accepted _ _ (packing_0 _ _ s l (rw n at c.if-out-length_of.false)) c.refused-2.ensures c.write_record.ensures
+    pack-written _ _ parts.tells (rw parts.keeps at c.in_ok-test.ensures) (rw n at c.if-out-length_of.false)
+    (rw parts.keeps at c.write.ensures)
