@@ -9,7 +9,7 @@ ghost use Rattle.record_fields.specs.Refused.{refused, told};
 ghost use Rattle.record_fields.specs.Told.{ToldContents};
 
 use record::heading::no_size;
-use record_contents::{bad_row_in, is_layout, one_to_one_in};
+use record_contents::test_parts;
 use record_fields::copying::{bytes_in, number_in, numbers_in};
 use record_fields::fields::{
     HOLD_AT, LEFT_ROWS_AT, MARK_TGP, SIZE_AT, VERSION_1, VERSION_AT, left_layout_at, length_of,
@@ -86,19 +86,14 @@ impl<'a> Parts<'a> {
     fn test(&self) -> Result<(), Refusal>
         ensures { ToldContents self.now (told result) }
     {
-        if let Some(row) = bad_row_in(self.left, self.n) {
-            return Err(Refusal::LeftRow(row));
-        }
-        if let Some(row) = bad_row_in(self.right, self.n) {
-            return Err(Refusal::RightRow(row));
-        }
-        if !one_to_one_in(self.links, self.n) {
-            return Err(Refusal::Links);
-        }
-        if !is_layout(self.leftlayout) || !is_layout(self.rightlayout) {
-            return Err(Refusal::Layout);
-        }
-        Ok(())
+        test_parts(
+            self.n,
+            &self.left,
+            &self.right,
+            &self.links,
+            self.leftlayout,
+            self.rightlayout,
+        )
     }
 
     // Writes the record with these parts to the buffer's first places.
