@@ -122,7 +122,8 @@ fn write_opening(hold: Hold, n: u16, out: &mut [u8])
 }
 
 // Packs any parts: writes the record that they make to the buffer's first 12n-2 places, if the parts are good and
-// the buffer has the places; else it answers the refusal and writes nothing. Rows are flat, upper then lower.
+// the buffer has the places; else it answers the refusal and writes nothing. Rows are flat, upper then lower. Each list
+// is a parameter of its own, since the C interface hands it over so.
 pub fn pack(
     hold: u8,
     n: u16,

@@ -63,7 +63,8 @@ impl<'a> Buffers<'a> {
 }
 
 // Unpacks any bytes: writes the rows of each tree, the links and the layouts to the buffers' first places, if the
-// record is accepted and each buffer has the places; else it answers the refusal and writes nothing.
+// record is accepted and each buffer has the places; else it answers the refusal and writes nothing. Each buffer is a
+// parameter of its own, since the C interface hands it over so.
 pub fn unpack(
     s: &[u8],
     left: &mut [u16],
