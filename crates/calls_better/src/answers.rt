@@ -1,11 +1,15 @@
-// What comparing two orders answers: numbers, for who can't be handed a part of a lent order. They carry the refusal,
-// and zero for every other number where it refuses.
-use record_fields::refusal::Refusal;
+// What comparing two orders answers, for who can't be handed a part of a lent order.
 
-// The refusal; 1 or 2 for the first or the second order, the one that crosses less; n.
-#[derive(Drop)]
-pub struct Compared {
-    pub refusal: Refusal,
-    pub which: u16,
+// The first or the second order.
+#[derive(Clone, Copy, Debug, PartialEq, Eq)]
+pub enum Which {
+    First,
+    Second,
+}
+
+// The order that crosses less, and how many of its entries count: n.
+#[derive(Clone, Copy, Debug, PartialEq, Eq)]
+pub struct Better {
+    pub which: Which,
     pub length: u16,
 }

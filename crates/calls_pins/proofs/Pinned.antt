@@ -5,20 +5,27 @@ use mathlib.Core.Logic.{◌≢◌}
 use mathlib.Core.Bool.{Bool, true, false, not}
 use mathlib.Core.List.{List}
 use native.Mathlib.Omega.{arith}
-use borrow.Author.Tests.{ne_eqb}
+use borrow.Author.Tests.{ne_eqb, not-true, not-false}
+use Rattle.record_fields.specs.declared.refusal.Refusal.{Refusal}
 use Rattle.record_fields.specs.Fields.{size_of, parts}
-use Rattle.record_fields.specs.Refusals.{refusal}
-use Rattle.record_fields.specs.Refused.{NumberAndRow, refused}
+use Rattle.record_fields.specs.Refusals.{refusal, RecordOver}
+use Rattle.record_fields.specs.Refused.{NumberAndRow, refused, refused_row, number_of, row_of}
 use Rattle.record_fields.specs.Told.{told_of, OwnRow}
 use Rattle.record_fields.specs.Meaning.{relaid}
 use Rattle.record_fields.proofs.Acceptance.{else_first, none_both}
 use Rattle.record_fields.proofs.Heading.{none_first, not_no}
-use Rattle.record_fields.proofs.Told.{told_none, alone_when, alone_0, own_when, own_then}
+use Rattle.record_fields.proofs.Told.{told_none, told-alone, alone_when, alone_0, own_when, own_then}
+use Rattle.record.specs.Calls.{Refused, Reads}
+use Rattle.record.proofs.Outcomes.{read-told, read-refuses}
 use Rattle.record_arrays.specs.Sides.{is_side}
 use Rattle.record_arrays.specs.Rows.{no_row}
 use Rattle.record_arrays.proofs.OneRow.{row-there}
 use Rattle.calls_pins.specs.Refusals.{pin_refusal}
 use Rattle.calls_pins.specs.Calls.{pinned_layouts, Pins}
+
+-- a row that is there, by its test
+pub row-found : (n row : ℕ) {there : Bool} → there ≡ not (no_row n row) → there ≡ true → (1 ≤ row) × (row < n)
+row-found n row e h = row-there n row (not-true _ (sym e ∙ h))
 
 -- ---- the refusals
 
@@ -59,10 +66,29 @@ module _ (s : List ℕ) (side row : ℕ) where
   -- ---- from what the call found to its statement
 
   module _ (pinned : Bool) where
-    pub pin-refused : {k : ℕ} {answer : NumberAndRow} → k ≡ pin_refusal s side row → k ≢ 0 → answer ≡ told_of s k →
+    pin-refused : {k : ℕ} {answer : NumberAndRow} → k ≡ pin_refusal s side row → k ≢ 0 → answer ≡ told_of s k →
         Pins s side row pinned answer s
     pin-refused {k} e h r = record { answers = r ∙ ap (told_of s) e; afterwards = rw (← e, ne_eqb k 0 h) refl }
 
-    pub pin-accepted : {answer : NumberAndRow} {s' : List ℕ} → pin_refusal s side row ≡ 0 → answer ≡ refused 0 →
-        s' ≡ relaid s (pinned_layouts s side row pinned) → Pins s side row pinned answer s'
-    pin-accepted z r e = record { answers = r ∙ told_none (parts s) z; afterwards = rw z e }
+    pub pin-no_side : is_side side ≡ false → Pins s side row pinned (refused 13) s
+    pin-no_side h = pin-refused (pinning_13 h) (λ e. omega (arith, e)) (told-alone (parts s) (record { alone = refl }))
+
+    module _ (good : is_side side ≡ true) where
+      pub pin-no_record : (r : Refusal) → Reads s (Refused (refused_row (number_of r) (row_of r))) →
+          Pins s side row pinned (refused_row (number_of r) (row_of r)) s
+      pin-no_record r found = pin-refused (pinning_record good (read-refuses s r found)) (read-refuses s r found) (read-told s r found)
+
+      -- of an accepted record, by the test of the row
+      module _ {n : ℕ} (g : RecordOver s n) {there : Bool} (e : there ≡ not (no_row n row)) where
+        row-as : no_row (size_of s) row ≡ no_row n row
+        row-as = ap (λ k. no_row k row) g.sized.says
+
+        pub pin-no_row : there ≡ false → Pins s side row pinned (refused 15) s
+        pin-no_row h =
+            pin-refused (pinning_15 good g.accepted (row-as ∙ not-false _ (sym e ∙ h))) (λ z. omega (arith, z))
+            (told-alone (parts s) (record { alone = refl }))
+
+        pub pin-put : {s' : List ℕ} → there ≡ true → s' ≡ relaid s (pinned_layouts s side row pinned) → Pins s side row pinned (refused 0) s'
+        pin-put h made =
+            let z : pin_refusal s side row ≡ 0 = sym (pinning_0 good g.accepted (row-as ∙ not-true _ (sym e ∙ h))) in
+            record { answers = told_none (parts s) z; afterwards = rw z made }

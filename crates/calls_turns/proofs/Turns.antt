@@ -1,22 +1,26 @@
 -- Freeing a side and running, as calls: their refusals test by test, and from what they found to their statements.
-use Prim.Native.Nat.{ℕ, zero, suc, ◌≤◌, ◌<◌}
+use Prim.Native.Nat.{ℕ, ◌≤◌, ◌<◌}
 use mathlib.Core.Path.{◌≡◌, refl, sym, ap, ◌∙◌}
-use mathlib.Core.Logic.{◌≢◌}
-use mathlib.Core.Bool.{true, false, not, true≢false}
+use mathlib.Core.Logic.{◌≢◌, ◌⊎◌, inl, inr}
+use mathlib.Core.Bool.{Bool, true, false, not}
 use mathlib.Core.List.{List}
 use native.Mathlib.Omega.{arith}
 use borrow.Author.Tests.{eq-eqb, ne_eqb, lt-ltb, le-ltb}
+use Rattle.tanglegram.specs.declared.side.Side.{Side}
 use Rattle.tanglegram.specs.declared.side.Side.TheVariants.{Left as left, Right as right}
 use Rattle.tanglegram.specs.Table.{crossings}
+use Rattle.record_fields.specs.declared.refusal.Refusal.{Refusal}
 use Rattle.record_fields.specs.Fields.{hold_of, parts}
 use Rattle.record_fields.specs.Refusals.{refusal}
 use Rattle.record_fields.specs.Meaning.{table_of, layouts_of, relaid}
 use Rattle.record_fields.proofs.Acceptance.{else_first, none_both}
 use Rattle.record_fields.proofs.Heading.{none_first, not_no}
 use Rattle.record_arrays.specs.Sides.{is_side, side_of, holds, RecordOver}
-use Rattle.record_fields.specs.Refused.{NumberAndRow, refused}
+use Rattle.record_fields.specs.Refused.{NumberAndRow, refused, refused_row, number_of, row_of}
 use Rattle.record_fields.specs.Told.{told_of, OwnRow}
-use Rattle.record_fields.proofs.Told.{told_none, alone_when, alone_0, own_when, own_then}
+use Rattle.record_fields.proofs.Told.{told_none, told-alone, alone_when, alone_0, own_when, own_then}
+use Rattle.record.specs.Calls.{Refused, Reads}
+use Rattle.record.proofs.Outcomes.{read-told, read-refuses}
 use Rattle.calls_turns.specs.Refusals.{free_refusal, no_allowance, run_refusal}
 use Rattle.record_arrays.specs.Shown.{shown_count}
 use Rattle.calls_turns.specs.Calls.{freed_layouts, Frees, Runs}
@@ -58,22 +62,35 @@ module _ (s : List ℕ) (side : ℕ) where
   unfolding free_refusal
   free_own e = rw e (own_when s (not (is_side side)) 13 refl (own_then s (alone_when (holds (hold_of s) (side_of side)) 11 refl alone_0)))
 
-  pub free_refused : {k : ℕ} {told : NumberAndRow} → told ≡ told_of s k → k ≡ free_refusal s side → k ≢ 0 →
-      Frees s side (record { refusal = told; before = 0; after = 0 }) s
-  free_refused {k} t e h = record { answers = rw (t, ← e, ne_eqb k 0 h) refl; afterwards = rw (← e, ne_eqb k 0 h) refl }
+  refused-free : {k : ℕ} {answer : NumberAndRow} → k ≡ free_refusal s side → k ≢ 0 → answer ≡ told_of s k →
+      Frees s side (record { refusal = answer; before = 0; after = 0 }) s
+  refused-free {k} e h t = record { answers = rw (t, ← e, ne_eqb k 0 h) refl; afterwards = rw (← e, ne_eqb k 0 h) refl }
+
+  pub free-no-side : is_side side ≡ false → Frees s side (record { refusal = refused 13; before = 0; after = 0 }) s
+  free-no-side h = refused-free (freeing_13 h) (λ e. omega (arith, e)) (told-alone (parts s) (record { alone = refl }))
+
+  module _ (good : is_side side ≡ true) where
+    pub free-record : (r : Refusal) → Reads s (Refused (refused_row (number_of r) (row_of r))) →
+        Frees s side (record { refusal = refused_row (number_of r) (row_of r); before = 0; after = 0 }) s
+    free-record r found = refused-free (freeing_record good (read-refuses s r found)) (read-refuses s r found) (read-told s r found)
+
+    module _ (a : refusal s ≡ 0) {h : ℕ} {x : Side} (e : h ≡ hold_of s) (f : side_of side ≡ x) where
+      pub free-held : holds h x ≡ true → Frees s side (record { refusal = refused 11; before = 0; after = 0 }) s
+      free-held w =
+          refused-free (freeing_11 good a (rw (f, ← e) w)) (λ e. omega (arith, e)) (told-alone (parts s) (record { alone = refl }))
+
+      pub free-done : {b c : ℕ} {s' : List ℕ} → holds h x ≡ false → RecordFreed s x b c s' →
+          Frees s side (record { refusal = refused 0; before = b; after = c }) s'
+      free-done w done = let z : free_refusal s side ≡ 0 = sym (freeing_0 good a (rw (f, ← e) w)) in record {
+        answers = rw (told_none (parts s) z, z, done.counted, done.recounted, f) refl;
+        afterwards = done.afterwards ∙ rw (z, f) refl;
+      }
 
   -- the count of a record whose side was freed
   pub freed-count : {n : ℕ} → RecordOver s n → shown_count (relaid s (freed_layouts s side)) ≡ crossings (table_of s) (freed_layouts s side)
   freed-count {n} g =
       ap (λ T. crossings T (layouts_of (relaid s (freed_layouts s side)))) (freed-table s n g (side_of side))
       ∙ ap (crossings (table_of s)) (freed-layouts s n g (side_of side))
-
-  pub free-accepted : {b a : ℕ} {told : NumberAndRow} {s' : List ℕ} → told ≡ refused 0 → free_refusal s side ≡ 0 →
-      RecordFreed s (side_of side) b a s' → Frees s side (record { refusal = told; before = b; after = a }) s'
-  free-accepted t z f = record {
-    answers = rw (t ∙ told_none (parts s) z, z, f.counted, f.recounted) refl;
-    afterwards = f.afterwards ∙ rw z refl;
-  }
 
 -- ---- a run's refusals
 
@@ -119,31 +136,45 @@ module _ (s : List ℕ) (allowance : ℕ) where
       rw e (own_when s (no_allowance allowance) 12 refl (own_then s
       (alone_when (holds (hold_of s) left) 11 refl (alone_when (holds (hold_of s) right) 11 refl alone_0))))
 
-  pub run_refused : {k : ℕ} {told : NumberAndRow} → told ≡ told_of s k → k ≡ run_refusal s allowance → k ≢ 0 →
-      Runs s allowance (record { refusal = told; first = 0; last = 0; turns = 0; settled = 0 }) s
-  run_refused {k} t e h = record { answers = rw (t, ← e, ne_eqb k 0 h) refl; afterwards = rw (← e, ne_eqb k 0 h) refl }
+  refused-run : {k : ℕ} {answer : NumberAndRow} → k ≡ run_refusal s allowance → k ≢ 0 → answer ≡ told_of s k →
+      Runs s allowance (record { refusal = answer; first = 0; last = 0; turns = 0; settled = 0 }) s
+  refused-run {k} e h t = record { answers = rw (t, ← e, ne_eqb k 0 h) refl; afterwards = rw (← e, ne_eqb k 0 h) refl }
 
-  pub run-accepted : {f l t w : ℕ} {told : NumberAndRow} {s' : List ℕ} → told ≡ refused 0 → run_refusal s allowance ≡ 0 →
-      RecordRan s allowance f l t w s' → Runs s allowance (record { refusal = told; first = f; last = l; turns = t; settled = w }) s'
-  run-accepted told z e = record {
-    answers = rw (told ∙ told_none (parts s) z, z, e.first_count, e.last_count, e.taken, e.ended) refl;
-    afterwards = e.afterwards ∙ rw z refl;
-  }
+  pub run-no-allowance : no_allowance allowance ≡ true →
+      Runs s allowance (record { refusal = refused 12; first = 0; last = 0; turns = 0; settled = 0 }) s
+  run-no-allowance h = refused-run (running_12 h) (λ e. omega (arith, e)) (told-alone (parts s) (record { alone = refl }))
+
+  module _ (good : no_allowance allowance ≡ false) where
+    pub run-record : (r : Refusal) → Reads s (Refused (refused_row (number_of r) (row_of r))) →
+        Runs s allowance (record { refusal = refused_row (number_of r) (row_of r); first = 0; last = 0; turns = 0; settled = 0 }) s
+    run-record r found = refused-run (running_record good (read-refuses s r found)) (read-refuses s r found) (read-told s r found)
+
+    module _ (a : refusal s ≡ 0) where
+      pub run-held : {h : ℕ} → h ≡ hold_of s → (holds h left ≡ true) ⊎ (holds h right ≡ true) →
+          Runs s allowance (record { refusal = refused 11; first = 0; last = 0; turns = 0; settled = 0 }) s
+      run-held e w = refused-run (held (rw e at w)) (λ z. omega (arith, z)) (told-alone (parts s) (record { alone = refl }))
+        where
+          held : (holds (hold_of s) left ≡ true) ⊎ (holds (hold_of s) right ≡ true) → 11 ≡ run_refusal s allowance
+          held (inl l) = running_11_left good a l
+          held (inr r) = go (holds (hold_of s) left) refl
+            where
+              go : (b : Bool) → holds (hold_of s) left ≡ b → 11 ≡ run_refusal s allowance
+              go true l = running_11_left good a l
+              go false l = running_11_right good a l r
+
+      pub run-done : {h f l t w : ℕ} {s' : List ℕ} → h ≡ hold_of s → holds h left ≡ false → holds h right ≡ false →
+          RecordRan s allowance f l t w s' → Runs s allowance (record { refusal = refused 0; first = f; last = l; turns = t; settled = w }) s'
+      run-done e p q done = let z : run_refusal s allowance ≡ 0 = sym (running_0 good a (rw e at p) (rw e at q)) in record {
+        answers = rw (told_none (parts s) z, z, done.first_count, done.last_count, done.taken, done.ended) refl;
+        afterwards = done.afterwards ∙ rw z refl;
+      }
 
 -- an allowance that is none, and one that is
-pub none_allowed : (k : ℕ) → k ≡ 0 → no_allowance k ≡ true
+pub none_allowed : {k : ℕ} → (k ≡ 0) ⊎ ((k ≢ 0) × (130818 < k)) → no_allowance k ≡ true
 unfolding no_allowance
-none_allowed k e = rw (eq-eqb k 0 e) refl
-
-pub too_many : (k : ℕ) → k ≢ 0 → 130818 < k → no_allowance k ≡ true
-unfolding no_allowance
-too_many k h p = rw (ne_eqb k 0 h, lt-ltb 130818 k p) refl
+none_allowed {k} (inl e) = rw (eq-eqb k 0 e) refl
+none_allowed {k} (inr (h, p)) = rw (ne_eqb k 0 h, lt-ltb 130818 k p) refl
 
 pub allowance-good : (k : ℕ) → k ≢ 0 → k ≤ 130818 → no_allowance k ≡ false
 unfolding no_allowance
 allowance-good k h p = rw (ne_eqb k 0 h, le-ltb 130818 k p) refl
-
-pub allowance-some : (k : ℕ) → no_allowance k ≡ false → 1 ≤ k
-unfolding no_allowance
-allowance-some zero e = absurd (true≢false e)
-allowance-some (suc k) e = omega arith

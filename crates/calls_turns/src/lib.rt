@@ -1,7 +1,6 @@
 // The calls on any bytes that turn branchings over to cross less: free and run.
 #![tactic(auto)]
 
-pub mod answers;
 mod taking_turns;
 
 pub use taking_turns::{free, run};

@@ -5,7 +5,7 @@ ghost use Rattle.std.proofs.lemmas.List.Edits.{sets};
 ghost use Rattle.merge.specs.Tables.{Pairs, rows_in, some_none, twice};
 
 use crate::entries::{named_by, names_none};
-use work_tree_rule::Used;
+use work_tree_rule::{Numbers, bad_row};
 
 // Whether an entry is zero, or names no leaf, or no earlier row.
 pub fn any_names_none(table: &[i32], n: u16) -> bool
@@ -21,21 +21,29 @@ pub fn any_names_none(table: &[i32], n: u16) -> bool
     false
 }
 
+// A table each of whose entries names a leaf or an earlier row: the objects that they name.
+#[derive(Drop)]
+struct Named<'a> {
+    table: &'a [i32],
+    n: u16,
+    ghost pairs: { Pairs n table.now },
+    ghost named: { some_none n table.now ≡ false },
+}
+
+impl Numbers for Named<'_> {
+    ghost list = { λ t. rows_in t.n t.table.now };
+
+    fn number(&self, k: usize) -> u16 {
+        named_by(self.table[k], self.n)
+    }
+}
+
 // Whether an entry is used twice, where each names a leaf or an earlier row: then a row breaks the tree rule.
 pub fn any_twice(table: &[i32], n: u16) -> bool
     requires { Pairs n table.now × (some_none n table.now ≡ false) }
     ensures { result ≡ twice table.now }
 {
-    let mut used = Used::new();
-    for i in 1..n {
-        let at = 2 * usize::from(i - 1);
-        let upper = named_by(table[at], n);
-        let lower = named_by(table[at + 1], n);
-        if used.row_breaks(upper, lower, usize::from(n + i)) {
-            return true;
-        }
-    }
-    false
+    bad_row(&Named { table, n }, n as usize).is_some()
 }
 
 // Writes the rows that a table says, where each entry names a leaf or an earlier row, to out's first places.

@@ -1,53 +1,35 @@
 -- `compare`: where nothing is refused, both orders can be counted, and the smaller of the two counts decides.
-use Rattle.std.proofs.Common.{refl, sym, ◌∙◌, ◌≡◌}
-use Rattle.calls_better.specs.Refusals.{better_refusal}
-use Rattle.record_arrays.proofs.AsItStands.{long-enough}
-use Rattle.calls_better.proofs.Compared.{Ready, ready, compare-own, compare-refused, compare-first, compare_second}
-use Rattle.calls_better.proofs.comparing.compare.Goals.{After-size_of-n}
+use Rattle.std.proofs.lemmas.Result.{err_from_is_err_and}
+use Rattle.calls_better.proofs.Compared.{Ready, ready, compare-refused, compare-first, compare_second}
+use Rattle.calls_better.proofs.comparing.compare.Goals.{In_ok-side}
 use Rattle.calls_better.proofs.comparing.compare.Goals as goal
 
-none : (c : After-size_of-n) →
-    let a = c.args in
-    better_refusal a.s.now a.side a.first.now a.second.now ≡ 0
-none c = sym c.comparing_number-k.ensures ∙ c.if-k-ne0.false
+at-start : (c : In_ok-side) → let a = c.args in Ready a.s.now c.in_ok-side.n c.in_ok-side.side a.first.now a.second.now
+at-start c = let h = c.in_ok-side.ensures.says in ready _ _ _ _ h.0 h.1 h.2
 
-at-start : (c : After-size_of-n) →
-    let a = c.args in
-    Ready a.s.now c.size_of-n.result a.side a.first.now a.second.now
-at-start c = ready _ _ _ _ (none c) c.size_of-n.ensures
+pub returns-in_err-side : goal.returns-in_err-side
+returns-in_err-side c =
+    let p = err_from_is_err_and c.from_residual.result c.from_residual.ensures.1 in
+    rw (p.1, p.2) (compare-refused _ _ _ _ _ c.in_err-side.ensures.tells)
 
-pub told-requires : goal.told-requires
-told-requires c = compare-own _ _ _ _ c.comparing_number-k.ensures
+pub count_with-a-requires-clause-record_over : goal.count_with-a-requires-clause-record_over
+count_with-a-requires-clause-record_over c = (at-start c).given
 
-pub returns-then-k-ne0 : goal.returns-then-k-ne0
-returns-then-k-ne0 c =
-    compare-refused _ _ _ _ c.told.ensures c.comparing_number-k.ensures c.if-k-ne0.true
+pub count_with-a-requires-clause-proposed : goal.count_with-a-requires-clause-proposed
+count_with-a-requires-clause-proposed c = (at-start c).good-first
 
-pub size_of-n-requires : goal.size_of-n-requires
-size_of-n-requires c = long-enough _ (ready _ _ _ _ (sym c.comparing_number-k.ensures ∙ c.if-k-ne0.false) refl).given.accepted
+pub count_with-b-requires-clause-record_over : goal.count_with-b-requires-clause-record_over
+count_with-b-requires-clause-record_over c = let at = goal.at.count_with-b-requires-clause-record_over c in (at-start at.In_ok-side).given
 
-pub count_with-a-requires : goal.count_with-a-requires
-count_with-a-requires c = let h = at-start c in
-    record {
-      record_over = h.given;
-      side_value = (h.sided, h.good-first);
-    }
-
-pub count_with-b-requires : goal.count_with-b-requires
-count_with-b-requires c = let h = at-start (goal.at.count_with-b-requires c).After-size_of-n in
-    record {
-      record_over = h.given;
-      side_value = (h.sided, h.good_second);
-    }
+pub count_with-b-requires-clause-proposed : goal.count_with-b-requires-clause-proposed
+count_with-b-requires-clause-proposed c = let at = goal.at.count_with-b-requires-clause-proposed c in (at-start at.In_ok-side).good_second
 
 pub returns-then-b-a : goal.returns-then-b-a
 returns-then-b-a c =
-    compare_second _ _ _ _ (none (goal.at.returns-then-b-a c).After-size_of-n) c.size_of-n.ensures
-    c.count_with-a.ensures c.count_with-b.ensures c.refused.ensures
-    c.if-b-a.true
+    let h = c.in_ok-side.ensures.says in
+    compare_second _ _ _ _ h.0 h.1 h.2 c.count_with-a.ensures c.count_with-b.ensures c.if-b-a.true
 
-pub returns : goal.returns
-returns c =
-    compare-first _ _ _ _ (none (goal.at.returns c).After-size_of-n) c.size_of-n.ensures c.count_with-a.ensures
-    c.count_with-b.ensures c.refused-2.ensures
-    c.if-b-a.false
+pub returns-else-b-a : goal.returns-else-b-a
+returns-else-b-a c =
+    let h = c.in_ok-side.ensures.says in
+    compare-first _ _ _ _ h.0 h.1 h.2 c.count_with-a.ensures c.count_with-b.ensures c.if-b-a.false

@@ -1,25 +1,27 @@
--- `free`: a refused call keeps every byte; otherwise the side is freed, and both counts are told.
+-- `free`: the side's refusal, the record's or the held side's, and every byte as found; or the side freed, and both counts.
 use Rattle.std.proofs.Common.{sym, ◌∙◌}
-use Rattle.record_arrays.proofs.AsItStands.{long-enough, over_n}
-use Rattle.calls_turns.proofs.Turns.{freeing_good, free_own, free_refused, free-accepted}
+use Rattle.std.proofs.lemmas.Result.{err_from_is_err_and}
+use Rattle.calls_turns.proofs.Turns.{free-no-side, free-record, free-held, free-done}
 use Rattle.calls_turns.proofs.taking_turns.free.Goals as goal
 
-pub told-requires : goal.told-requires
-told-requires c = free_own _ _ c.freeing_number-k.ensures
+pub returns-in_err-side : goal.returns-in_err-side
+returns-in_err-side c =
+    let p = err_from_is_err_and c.from_residual.result c.from_residual.ensures.1 in
+    rw (p.1, p.2) (free-no-side _ _ c.in_err-side.ensures)
 
-pub returns-then-k-ne0 : goal.returns-then-k-ne0
-returns-then-k-ne0 c =
-    free_refused _ _ c.told.ensures c.freeing_number-k.ensures c.if-k-ne0.true
+pub returns-in_err-header : goal.returns-in_err-header
+returns-in_err-header c =
+    let p = err_from_is_err_and c.from_residual-in_err-header.result c.from_residual-in_err-header.ensures.1 in
+    rw (p.1, p.2) (free-record _ _ c.in_ok-side.ensures.0 _ c.in_err-header.ensures.reads)
 
-pub size_of-n-requires : goal.size_of-n-requires
-size_of-n-requires c =
-    long-enough _ (freeing_good _ _ (sym c.freeing_number-k.ensures ∙ c.if-k-ne0.false)).1
-
-pub free_record-turn-requires : goal.free_record-turn-requires
-free_record-turn-requires c =
-    let a = freeing_good _ _ (sym c.freeing_number-k.ensures ∙ c.if-k-ne0.false) in
-    (over_n _ a.1 c.size_of-n.ensures, a.0)
+pub returns-then-holds : goal.returns-then-holds
+returns-then-holds c =
+    let side = c.in_ok-side.ensures in
+    let over = c.in_ok-header.ensures.over in
+    free-held _ _ side.0 over.0.accepted over.1 side.1 (sym c.holds.ensures ∙ c.if-holds.true)
 
 pub returns : goal.returns
 returns c =
-    free-accepted _ _ c.refused.ensures (sym c.freeing_number-k.ensures ∙ c.if-k-ne0.false) c.free_record-turn.ensures
+    let side = c.in_ok-side.ensures in
+    let over = c.in_ok-header.ensures.over in
+    free-done _ _ side.0 over.0.accepted over.1 side.1 (sym c.holds.ensures ∙ c.if-holds.false) c.free_record.ensures
