@@ -3,30 +3,30 @@ ghost use Rattle.std.specs.Prelude.{cond, ◌≡◌};
 ghost use Rattle.std.specs.Float.{binary64};
 ghost use Rattle.std.specs.Float.Ieee.{eq, to_bits};
 
-use calls_show::answers::{Counted, InThousandths, SquaredEntanglement};
+use calls_show::answers::Measured;
 use desk_words::lists::list as list_in;
 use desk_words::numbers::number16;
-use desk_words::spelling::{list, next_bits, next_list};
+use desk_words::spelling::{answer, list, next_bits, next_list};
 use desk_words::words::word;
+use record_fields::refusal::Refusal;
 use std::io;
 use std::io::Stdout;
 
 // NUMBER, which for 7 and 8 is followed by the row, here and in every answer.
-fn only(stdout: Stdout, number: u16, row: u16) -> io::Result<()> {
-    printing::refusal(stdout, number, row)?;
+fn only(stdout: Stdout, answered: Result<(), Refusal>) -> io::Result<()> {
+    answer(stdout, answered.err(), &[])?;
     printing::end(stdout)
 }
 
 // check RECORD -> NUMBER
 pub fn check(stdout: Stdout, s: &[u8]) -> io::Result<()> {
-    let found = record::check(s);
-    only(stdout, found.number, found.row)
+    only(stdout, record::check(s))
 }
 
 // NUMBER OUT
 fn ordered(stdout: Stdout, s: &[u8], side: u16, xs: &mut [u16]) -> io::Result<()> {
-    let done = calls_show::order(s, side, xs);
-    printing::refusal(stdout, done.number, done.row)?;
+    let answered = calls_show::order(s, side, xs);
+    answer(stdout, answered.err(), &[])?;
     next_list(stdout, xs)?;
     printing::end(stdout)
 }
@@ -39,10 +39,11 @@ pub fn order(stdout: Stdout, line: &[u8], s: &[u8], xs: &mut [u16]) -> Option<io
 }
 
 // NUMBER COUNT
-fn counted(stdout: Stdout, answer: Counted) -> io::Result<()> {
-    let refusal = answer.refusal;
-    printing::refusal(stdout, refusal.number, refusal.row)?;
-    printing::next(stdout, answer.count)?;
+fn counted(stdout: Stdout, answered: Result<u32, Refusal>) -> io::Result<()> {
+    match answered {
+        Ok(count) => answer(stdout, None, &[count])?,
+        Err(refusal) => answer(stdout, Some(refusal), &[0])?,
+    }
     printing::end(stdout)
 }
 
@@ -57,9 +58,9 @@ pub fn pairs(stdout: Stdout, s: &[u8]) -> io::Result<()> {
 }
 
 // NUMBER 0 0 none
-fn no_squared(stdout: Stdout, number: u16, row: u16) -> io::Result<()> {
-    printing::refusal(stdout, number, row)?;
-    printing::text(stdout, b" 0 0 none\n")
+fn no_squared(stdout: Stdout, refused: Option<Refusal>) -> io::Result<()> {
+    answer(stdout, refused, &[0; 2])?;
+    printing::text(stdout, b" none\n")
 }
 
 // A ratio's bits; 0 for what is no number and so not equal to itself, which no ratio is.
@@ -73,42 +74,39 @@ fn bits(x: f64) -> u64
 }
 
 // 0 D W RATIO
-fn ratio(stdout: Stdout, d: u32, w: u32, x: f64) -> io::Result<()> {
-    printing::text(stdout, b"0")?;
-    printing::next(stdout, d)?;
-    printing::next(stdout, w)?;
-    next_bits(stdout, bits(x))?;
+fn ratio(stdout: Stdout, measured: Measured) -> io::Result<()> {
+    answer(stdout, None, &[measured.displacement, measured.worst])?;
+    next_bits(stdout, bits(measured.ratio))?;
     printing::end(stdout)
 }
 
 // squared_entanglement RECORD -> NUMBER D W RATIO
 pub fn squared_entanglement(stdout: Stdout, s: &[u8]) -> io::Result<()> {
     match calls_show::squared_entanglement(s) {
-        SquaredEntanglement::Ratio(d, w, x) => ratio(stdout, d, w, x),
-        SquaredEntanglement::NoRatio => no_squared(stdout, 0, 0),
-        SquaredEntanglement::Refused(refusal) => no_squared(stdout, refusal.number, refusal.row),
+        Ok(Some(measured)) => ratio(stdout, measured),
+        Ok(None) => no_squared(stdout, None),
+        Err(refusal) => no_squared(stdout, Some(refusal)),
     }
 }
 
 // NUMBER none
-fn no_thousandths(stdout: Stdout, number: u16, row: u16) -> io::Result<()> {
-    printing::refusal(stdout, number, row)?;
+fn no_thousandths(stdout: Stdout, refused: Option<Refusal>) -> io::Result<()> {
+    answer(stdout, refused, &[])?;
     printing::text(stdout, b" none\n")
 }
 
 // 0 K
 fn in_thousandths(stdout: Stdout, k: u32) -> io::Result<()> {
-    printing::text(stdout, b"0")?;
-    printing::next(stdout, k)?;
+    answer(stdout, None, &[k])?;
     printing::end(stdout)
 }
 
 // thousandths RECORD -> NUMBER K
 pub fn thousandths(stdout: Stdout, s: &[u8]) -> io::Result<()> {
     match calls_show::thousandths(s) {
-        InThousandths::Ratio(k) => in_thousandths(stdout, k),
-        InThousandths::NoRatio => no_thousandths(stdout, 0, 0),
-        InThousandths::Refused(refusal) => no_thousandths(stdout, refusal.number, refusal.row),
+        Ok(Some(k)) => in_thousandths(stdout, k),
+        Ok(None) => no_thousandths(stdout, None),
+        Err(refusal) => no_thousandths(stdout, Some(refusal)),
     }
 }
 
@@ -142,6 +140,6 @@ pub fn better_check(
     xs: &mut [u16],
 ) -> Option<io::Result<()>> {
     let (side, first, second) = orders(line, xs)?;
-    let found = calls_better::better_check(s, side, first, second);
-    Some(only(stdout, found.number, found.row))
+    let answered = calls_better::better_check(s, side, first, second);
+    Some(only(stdout, answered))
 }

@@ -3,15 +3,15 @@
 use desk_words::lists::{list, table};
 use desk_words::numbers::number16;
 use desk_words::room;
-use desk_words::spelling::next_list;
+use desk_words::spelling::{answer, next_list};
 use desk_words::words::word;
 use std::io;
 use std::io::Stdout;
 
 // NUMBER OUT
 fn read(stdout: Stdout, n: u16, rows: &[i32], out: &mut [u16]) -> io::Result<()> {
-    let refusal = calls_merge::merge_read(n, rows, out);
-    printing::refusal(stdout, refusal.number, refusal.row)?;
+    let answered = calls_merge::merge_read(n, rows, out);
+    answer(stdout, answered.err(), &[])?;
     next_list(stdout, out)?;
     printing::end(stdout)
 }
@@ -27,8 +27,8 @@ pub fn merge_read(stdout: Stdout, line: &[u8], xs: &mut [u16]) -> Option<io::Res
 
 // NUMBER OUT
 fn written(stdout: Stdout, s: &[u8], side: u16, out: &mut [i32]) -> io::Result<()> {
-    let refusal = calls_merge::merge_write(s, side, out);
-    printing::refusal(stdout, refusal.number, refusal.row)?;
+    let answered = calls_merge::merge_write(s, side, out);
+    answer(stdout, answered.err(), &[])?;
     next_list(stdout, out)?;
     printing::end(stdout)
 }

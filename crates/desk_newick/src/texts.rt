@@ -4,17 +4,24 @@ use desk_words::bytes::bytes;
 use desk_words::lists::list;
 use desk_words::numbers::number16;
 use desk_words::room;
-use desk_words::spelling::{next_bytes, next_list};
+use desk_words::spelling::{answer, next_bytes, next_list};
 use desk_words::words::word;
+use record_fields::refusal::Refusal;
 use std::io;
 use std::io::Stdout;
 
+// The refusal's number, and n or the length.
+fn numbered(stdout: Stdout, answered: Result<u16, Refusal>) -> io::Result<()> {
+    match answered {
+        Ok(x) => answer(stdout, None, &[u32::from(x)]),
+        Err(refusal) => answer(stdout, Some(refusal), &[0]),
+    }
+}
+
 // NUMBER N OUT
 fn read(stdout: Stdout, text: &[u8], out: &mut [u16]) -> io::Result<()> {
-    let answer = calls_newick::newick_read(text, out);
-    let refusal = answer.refusal;
-    printing::refusal(stdout, refusal.number, refusal.row)?;
-    printing::next(stdout, answer.n)?;
+    let answered = calls_newick::newick_read(text, out);
+    numbered(stdout, answered)?;
     next_list(stdout, out)?;
     printing::end(stdout)
 }
@@ -32,10 +39,8 @@ pub fn newick_read(
 
 // NUMBER LENGTH OUT
 fn written(stdout: Stdout, s: &[u8], side: u16, out: &mut [u8]) -> io::Result<()> {
-    let answer = calls_newick::newick_write(s, side, out);
-    let refusal = answer.refusal;
-    printing::refusal(stdout, refusal.number, refusal.row)?;
-    printing::next(stdout, answer.length)?;
+    let answered = calls_newick::newick_write(s, side, out);
+    numbered(stdout, answered)?;
     next_bytes(stdout, out)?;
     printing::end(stdout)
 }

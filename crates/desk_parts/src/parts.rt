@@ -4,18 +4,22 @@ use desk_words::bytes::bytes;
 use desk_words::lists::list;
 use desk_words::numbers::{number8, number16};
 use desk_words::room;
-use desk_words::spelling::{done, next_bytes, next_list};
+use desk_words::spelling::{answer, done, next_bytes, next_list};
 use desk_words::words::word;
-use record_unpacking::unpacking::Unpacked;
+use record::Header;
+use record_fields::refusal::Refusal;
 use std::io;
 use std::io::Stdout;
 
 // NUMBER HOLD N
-fn heading(stdout: Stdout, answer: Unpacked) -> io::Result<()> {
-    let refusal = answer.refusal;
-    printing::refusal(stdout, refusal.number, refusal.row)?;
-    printing::next(stdout, answer.hold)?;
-    printing::next(stdout, answer.n)
+fn heading(stdout: Stdout, answered: Result<Header, Refusal>) -> io::Result<()> {
+    match answered {
+        Ok(header) => {
+            let numbers = [u32::from(header.hold.letter()), u32::from(header.n)];
+            answer(stdout, None, &numbers)
+        }
+        Err(refusal) => answer(stdout, Some(refusal), &[0; 2]),
+    }
 }
 
 // unpack RECORD LEFT RIGHT LINKS LAYOUT LAYOUT -> NUMBER HOLD N LEFT RIGHT LINKS LAYOUT LAYOUT. The left list goes into
@@ -108,5 +112,5 @@ fn pack_layouts(
         &rightlay[..b],
         out,
     );
-    Some(done(stdout, packed.number, packed.row, out))
+    Some(done(stdout, packed, out))
 }

@@ -4,18 +4,17 @@ use desk_words::bytes::bytes;
 use desk_words::lists::list;
 use desk_words::numbers::number16;
 use desk_words::room;
-use desk_words::spelling::next_bytes;
+use desk_words::spelling::{answer, next_bytes};
 use desk_words::words::word;
 use std::io;
 use std::io::Stdout;
 
 // NUMBER COUNT LEAST LAYOUT
 fn taken(stdout: Stdout, s: &[u8], side: u16, xs: &[u16], out: &mut [u8]) -> io::Result<()> {
-    let answer = calls_take_in::take_in(s, side, xs, out);
-    let refusal = answer.refusal;
-    printing::refusal(stdout, refusal.number, refusal.row)?;
-    printing::next(stdout, answer.count)?;
-    printing::next(stdout, answer.least)?;
+    match calls_take_in::take_in(s, side, xs, out) {
+        Ok(weight) => answer(stdout, None, &[weight.count, u32::from(weight.least)])?,
+        Err(refusal) => answer(stdout, Some(refusal), &[0; 2])?,
+    }
     next_bytes(stdout, out)?;
     printing::end(stdout)
 }

@@ -2,6 +2,7 @@
 ghost use Rattle.std.specs.Prelude.{◌≡◌, ◌+◌, ◌*◌, ◌≤◌, length, take, drop};
 ghost use Rattle.desk_words.specs.Bytes.{hex_digit, spelling};
 
+use record_fields::refusal::Refusal;
 use std::fmt::Display;
 use std::io;
 use std::io::Stdout;
@@ -57,9 +58,30 @@ pub fn next_bytes(stdout: Stdout, s: &[u8]) -> io::Result<()> {
     Ok(())
 }
 
-// A refusal's number and row, bytes and a line feed.
-pub fn done(stdout: Stdout, number: u16, row: u16, s: &[u8]) -> io::Result<()> {
-    printing::refusal(stdout, number, row)?;
+// What a call answers in numbers: its refusal's, 0 for none, and the row if the refusal has one; then the others.
+pub fn answer(stdout: Stdout, refused: Option<Refusal>, others: &[u32]) -> io::Result<()> {
+    let Some(refusal) = refused else {
+        printing::number(stdout, 0)?;
+        return next_numbers(stdout, others);
+    };
+    printing::number(stdout, refusal.number())?;
+    if refusal.row() != 0 {
+        printing::next(stdout, refusal.row())?;
+    }
+    next_numbers(stdout, others)
+}
+
+// Numbers, a space before each.
+fn next_numbers(stdout: Stdout, numbers: &[u32]) -> io::Result<()> {
+    for x in numbers {
+        printing::next(stdout, *x)?;
+    }
+    Ok(())
+}
+
+// The same of a call that answers its refusal alone, then bytes and a line feed.
+pub fn done(stdout: Stdout, answered: Result<(), Refusal>, s: &[u8]) -> io::Result<()> {
+    answer(stdout, answered.err(), &[])?;
     next_bytes(stdout, s)?;
     printing::end(stdout)
 }

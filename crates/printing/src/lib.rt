@@ -26,15 +26,6 @@ pub fn next(stdout: Stdout, x: impl Display + Drop) -> io::Result<()> {
     write!(&stdout, " {x}")
 }
 
-// A refusal: its number, and its row if it has one.
-pub fn refusal(stdout: Stdout, number: u16, row: u16) -> io::Result<()> {
-    write!(&stdout, "{number}")?;
-    if row != 0 {
-        next(stdout, row)?;
-    }
-    Ok(())
-}
-
 // A line feed.
 pub fn end(stdout: Stdout) -> io::Result<()> {
     stdout.write_all(b"\n")
