@@ -1,24 +1,28 @@
 -- Hand lists, entry after entry: the refusal of an entry and of a list, and the record after an entry and after a list. A list's
 -- entries may be lent in any form: f says which hand an entry is.
 use Prim.Native.Nat.{ℕ, zero, suc, ◌+◌, ◌≤◌, ◌<◌}
-use mathlib.Core.Path.{◌≡◌, refl, sym, ap, ◌∙◌, subst}
+use mathlib.Core.Path.{◌≡◌, refl, sym, ap, ◌∙◌}
 use mathlib.Core.Logic.{◌≢◌}
-use mathlib.Core.Bool.{Bool, true, false, cond, not}
+use mathlib.Core.Bool.{true, false, not}
 use mathlib.Core.List.{List, [], ◌∷◌, map}
 use native.Mathlib.Numerals.{add-one}
 use native.Mathlib.Omega.{arith}
-use borrow.Author.Tests.{ne_eqb, ltb-false}
+use borrow.Author.Tests.{ne_eqb, lt-ltb, le-ltb, ltb-false}
 use lib.Dec.{ltb}
 use lib.ListN.{length, get_or, drop, length-map, drop_of_length-le}
 use lib.Seq.{drop-cons}
 use Rattle.tanglegram.specs.Order.{may_change}
+use Rattle.record_fields.specs.declared.refusal.Refusal.{Refusal}
 use Rattle.record_fields.specs.Fields.{most_hands, hold_of, size_of, parts}
 use Rattle.record_fields.specs.Refusals.{or_else, refusal}
-use Rattle.record_fields.specs.Refused.{NumberAndRow, refused}
+use Rattle.record_fields.specs.Refused.{NumberAndRow, refused, refused_row, number_of, row_of}
 use Rattle.record_fields.specs.Told.{told_of, OwnRow}
 use Rattle.record_fields.specs.Meaning.{layouts_of, relaid}
 use Rattle.record_fields.proofs.Acceptance.{else_first, else_second, none_both}
 use Rattle.record_fields.proofs.Heading.{none_first, not_no}
+use Rattle.record_fields.proofs.Refused.{refuses}
+use Rattle.record.specs.Calls.{Refused, Reads}
+use Rattle.record.proofs.Outcomes.{read-told, read-refuses}
 use Rattle.record_fields.proofs.Told.{Alone, told-alone, told_none, each_else, alone_when, alone_0, own_when, own_then}
 use Rattle.record_arrays.specs.Sides.{is_side, side_of, holds}
 use Rattle.record_arrays.specs.Rows.{no_row, row_byte}
@@ -76,46 +80,35 @@ pub nothing-after : (k : ℕ) → or_else k 0 ≡ k
 nothing-after zero = refl
 nothing-after (suc k) = refl
 
-first-of-three : (k b r : ℕ) → or_else (or_else k b) r ≡ or_else k (or_else b r)
-first-of-three zero b r = refl
-first-of-three (suc k) b r = refl
-
-module _ {A : Type 0} (f : A → Hand) (d : A) (list : List A) where
+module _ {A : Type 0} (f : A → Hand) (list : List A) where
   -- what is left from an entry on is that entry, and what is left after it
-  pub rest_cons : (i : ℕ) → i < length list → map f (drop i list) ≡ f (get_or list i d) ∷ map f (drop (i + 1) list)
-  rest_cons i h =
-      let e : drop i list ≡ get_or list i d ∷ drop (i + 1) list = rw add-one (drop-cons list i d h) in
-      ap (map f) e
+  pub rest_cons : (i : ℕ) {x : A} → i < length list → x ≡ get_or list i x → map f (drop i list) ≡ f x ∷ map f (drop (i + 1) list)
+  rest_cons i {x} h e =
+      let cut : drop i list ≡ get_or list i x ∷ drop (i + 1) list = rw add-one (drop-cons list i x h) in
+      ap (map f) cut ∙ ap (λ y. f y ∷ map f (drop (i + 1) list)) (sym e)
 
   pub rest_none : (i : ℕ) → length list ≤ i → map f (drop i list) ≡ []
   rest_none i h = ap (map f) (drop_of_length-le list h)
 
-  -- the refusal k found before entry i, or that of what is left from there on, is the list's
+  -- no entry before entry i is bad: the refusal of what is left from there on is the list's
   module _ (s : List ℕ) where
-    abbrev pub Found : ℕ → ℕ → Type 0
-    Found i k = or_else k (entries_refusal s (map f (drop i list))) ≡ entries_refusal s (map f list)
+    abbrev pub NoneBefore : ℕ → Type 0
+    NoneBefore i = entries_refusal s (map f (drop i list)) ≡ entries_refusal s (map f list)
 
-    pub found_start : {k : ℕ} → k ≡ 0 → Found 0 k
-    found_start {k} e = else_second k (entries_refusal s (map f list)) e
+    module _ (i : ℕ) {x : A} (before : NoneBefore i) (h : i < length list) (e : x ≡ get_or list i x) where
+      here : or_else (hand_refusal s (f x)) (entries_refusal s (map f (drop (i + 1) list))) ≡ entries_refusal s (map f list)
+      unfolding entries_refusal
+      here = sym (ap (entries_refusal s) (rest_cons i h e)) ∙ before
 
-    pub found_more : (i k : ℕ) {r : ℕ} → i < length list → Found i k →
-        r ≡ or_else k (hand_refusal s (f (get_or list i d))) → Found (i + 1) r
+      pub none_more : 0 ≡ hand_refusal s (f x) → NoneBefore (i + 1)
+      none_more z = sym (else_second (hand_refusal s (f x)) _ (sym z)) ∙ here
+
+      pub first_bad : hand_refusal s (f x) ≢ 0 → hand_refusal s (f x) ≡ entries_refusal s (map f list)
+      first_bad z = sym (else_first (hand_refusal s (f x)) _ z) ∙ here
+
+    pub none_bad : (i : ℕ) → NoneBefore i → length list ≤ i → 0 ≡ entries_refusal s (map f list)
     unfolding entries_refusal
-    found_more i k h before e =
-        let b = hand_refusal s (f (get_or list i d)) in
-        let rest = entries_refusal s (map f (drop (i + 1) list)) in
-        ap (λ x. or_else x rest) e
-        ∙ first-of-three k b rest
-        ∙ ap (or_else k) (sym (ap (entries_refusal s) (rest_cons i h)))
-        ∙ before
-
-    -- it is the list's where it is one, or where no entry is left
-    pub found_stop : (i : ℕ) {k : ℕ} → Found i k → k ≢ 0 → k ≡ entries_refusal s (map f list)
-    found_stop i {k} before h = sym (else_first k (entries_refusal s (map f (drop i list))) h) ∙ before
-
-    pub found_end : (i : ℕ) {k : ℕ} → Found i k → length list ≤ i → k ≡ entries_refusal s (map f list)
-    unfolding entries_refusal
-    found_end i {k} before h = sym (nothing-after k) ∙ ap (or_else k) (sym (ap (entries_refusal s) (rest_none i h))) ∙ before
+    none_bad i before h = sym (ap (entries_refusal s) (rest_none i h)) ∙ before
 
 -- no row is told with an entry's refusal, nor with that of the entries
 hand-alone : (s : List ℕ) (h : Hand) → Alone (hand_refusal s h)
@@ -132,6 +125,10 @@ entries-alone s (h ∷ hands) = each_else Alone (hand_refusal s h) (hand-alone s
 
 -- ---- from what a call found to its statement
 
+-- numbers that are told alone
+pub same-number : {k j : ℕ} → refused k ≡ refused j → k ≡ j
+same-number e = ap (λ (a : NumberAndRow). a.number) e
+
 -- where a list is accepted
 pub handing_accepted : (s : List ℕ) (hands : List Hand) → hands_refusal s hands ≡ 0 →
     (length hands ≤ most_hands) × (refusal s ≡ 0) × (entries_refusal s hands ≡ 0)
@@ -147,53 +144,39 @@ module _ (s : List ℕ) (hands : List Hand) where
   unfolding hands_refusal
   hands-own e = rw e (own_when s (ltb most_hands (length hands)) 17 refl (own_then s (entries-alone s hands)))
 
-  pub hands-refused : {k : ℕ} {answer : NumberAndRow} → k ≡ hands_refusal s hands → k ≢ 0 → answer ≡ told_of s k → Hands s hands answer s
+-- the number of entries is tested, then the record, then the entries
+module _ (s : List ℕ) {A : Type 0} (f : A → Hand) (list : List A) where
+  hands-refused : {k : ℕ} {answer : NumberAndRow} → k ≡ hands_refusal s (map f list) → k ≢ 0 → answer ≡ told_of s k →
+      Hands s (map f list) answer s
   hands-refused {k} e h r = record { answers = r ∙ ap (told_of s) e; afterwards = rw (← e, ne_eqb k 0 h) refl }
 
-  pub hands-accepted : {answer : NumberAndRow} {after : List ℕ} → hands_refusal s hands ≡ 0 → answer ≡ refused 0 →
-      after ≡ relaid s (handed (layouts_of s) hands) → Hands s hands answer after
-  hands-accepted a r e = record { answers = r ∙ told_none (parts s) a; afterwards = rw a e }
-
--- the number of entries and the record are tested before the entries
-module _ (s : List ℕ) {A : Type 0} (f : A → Hand) (list : List A) where
-  abbrev pub first : ℕ
-  first = cond (ltb most_hands (length list)) 17 (refusal s)
-
-  abbrev pub second : ℕ
-  second = entries_refusal s (map f list)
-
-  handing_parts : or_else first second ≡ hands_refusal s (map f list)
+  pub hands-many : most_hands < length list → Hands s (map f list) (refused 17) s
   unfolding hands_refusal
-  handing_parts =
-      by (ltb most_hands (length list)) (refusal s) second
-      ∙ ap (λ m. cond (ltb most_hands m) 17 (or_else (refusal s) second)) (sym (length-map list f))
-    where
-      by : (b : Bool) (k r : ℕ) → or_else (cond b 17 k) r ≡ cond b 17 (or_else k r)
-      by true k r = refl
-      by false k r = refl
+  hands-many h =
+      hands-refused (rw (length-map list f, lt-ltb most_hands (length list) h) refl) (λ z. omega (arith, z))
+      (told-alone (parts s) (record { alone = refl }))
 
-  module _ {k : ℕ} (e : k ≡ first) where
-    pub first-accepted : k ≡ 0 → refusal s ≡ 0
-    first-accepted a = (none_first (ltb most_hands (length list)) 17 (refusal s) (omega arith) (sym e ∙ a)).1
+  module _ (few : length list ≤ most_hands) where
+    few_refusal : or_else (refusal s) (entries_refusal s (map f list)) ≡ hands_refusal s (map f list)
+    unfolding hands_refusal
+    few_refusal = rw (length-map list f, le-ltb most_hands (length list) few) refl
 
-    pub first-number : k ≢ 0 → k ≡ hands_refusal s (map f list)
-    first-number h = e ∙ sym (else_first first second (λ z. h (e ∙ z))) ∙ handing_parts
+    pub hands-no_record : (r : Refusal) → Reads s (Refused (refused_row (number_of r) (row_of r))) →
+        Hands s (map f list) (refused_row (number_of r) (row_of r)) s
+    hands-no_record r found =
+        let h = read-refuses s r found in
+        hands-refused (sym (else_first (refusal s) _ h) ∙ few_refusal) h (read-told s r found)
 
-    pub first-own : k ≢ 0 → OwnRow s k
-    first-own h = hands-own s (map f list) (first-number h)
+    module _ (a : refusal s ≡ 0) where
+      entries_decide : entries_refusal s (map f list) ≡ hands_refusal s (map f list)
+      entries_decide = sym (else_second (refusal s) _ a) ∙ few_refusal
 
-    pub first-refused : {answer : NumberAndRow} → k ≢ 0 → answer ≡ told_of s k → Hands s (map f list) answer s
-    first-refused h r = hands-refused s (map f list) (first-number h) h r
+      pub hands-bad : (r : Refusal) → refused_row (number_of r) (row_of r) ≡ refused (entries_refusal s (map f list)) →
+          Hands s (map f list) (refused_row (number_of r) (row_of r)) s
+      hands-bad r e = hands-refused entries_decide (refuses r e) (e ∙ told-alone (parts s) (entries-alone s (map f list)))
 
-    module _ (a : k ≡ 0) {b : ℕ} (found : b ≡ entries_refusal s (map f list)) where
-      pub second_number : b ≡ hands_refusal s (map f list)
-      second_number = found ∙ sym (else_second first second (sym e ∙ a)) ∙ handing_parts
-
-      pub second_refused : {answer : NumberAndRow} → b ≢ 0 → answer ≡ refused b → Hands s (map f list) answer s
-      second_refused h r =
-          hands-refused s (map f list) second_number h
-          (r ∙ told-alone (parts s) (subst Alone (sym found) (entries-alone s (map f list))))
-
-      pub second_accepted : {answer : NumberAndRow} {after : List ℕ} → b ≡ 0 → answer ≡ refused 0 →
-          after ≡ relaid s (handed (layouts_of s) (map f list)) → Hands s (map f list) answer after
-      second_accepted z r w = hands-accepted s (map f list) (sym second_number ∙ z) r w
+      pub hands-turned : {s' : List ℕ} → refused 0 ≡ refused (entries_refusal s (map f list)) →
+          s' ≡ relaid s (handed (layouts_of s) (map f list)) → Hands s (map f list) (refused 0) s'
+      hands-turned e made =
+          let z : hands_refusal s (map f list) ≡ 0 = sym entries_decide ∙ sym (same-number e) in
+          record { answers = told_none (parts s) z; afterwards = rw z made }

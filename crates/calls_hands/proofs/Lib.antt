@@ -1,3 +1,4 @@
 pub mod HandLists
 pub mod TurnedRows
 pub mod Handed
+pub mod Narrowed

@@ -1,2 +1,3 @@
 pub mod Refusals
+pub mod Entries
 pub mod Calls

@@ -1,116 +1,92 @@
 // Hand lists. Each entry is a side and a row; all are tested before any row is turned over, so that a refused list
-// changes nothing. Here an entry is one number, the side times 65,536 and the row.
-ghost use Rattle.std.specs.Prelude.{[], ◌∷◌, map, ◌≡◌, ltb, ◌/◌, ◌<◌, ◌%◌, ◌≤◌};
-ghost use Rattle.record_fields.specs.Fields.{most_hands};
-ghost use Rattle.record_fields.specs.Refusals.{◌when◌else◌, refusal};
+// changes nothing.
+ghost use Rattle.std.specs.Prelude.{[], ◌∷◌, map, true, ◌≡◌, ◌<◌, ◌≤◌};
+ghost use Rattle.record_fields.specs.Fields.{hold_of};
+ghost use Rattle.record_fields.specs.Holds.{letter_of};
 ghost use Rattle.record_fields.specs.Meaning.{layouts_of, relaid};
+ghost use Rattle.record_fields.specs.Refused.{refused, told};
+ghost use Rattle.record_arrays.specs.Sides.{RecordOver, is_side};
 ghost use Rattle.calls_hands.specs.Calls.{handed, Hands};
 ghost use Rattle.calls_hands.specs.Refusals.{hand_refusal, entries_refusal, hand, hand_of};
-ghost use Rattle.record_arrays.specs.Sides.{RecordOver};
 
-use record::told;
-use record_arrays::{is_held, is_row, is_side, put_row_byte, row_byte};
-use record_fields::fields::{MOST_HANDS, hold_of, size_of};
-use record_fields::refusal::{HANDS, HELD, PINNED, ROW, Refusal, SIDE, refused};
+use crate::entries::Entry;
+use record::Header;
+use record_arrays::{is_row, put_row_byte, row_byte};
+use record_fields::fields::MOST_HANDS;
+use record_fields::refusal::Refusal;
+use tanglegram::Side;
 use work_trees::{flipped, may_change};
 
-// The refusal of one entry for an accepted record, or 0.
-pub fn hand_number(s: &[u8], n: u16, side: u16, row: u16) -> u16
-    requires { RecordOver s.now n }
-    ensures { result ≡ hand_refusal s.now (hand side row) }
+// Tests an entry's side and row for an accepted record with that heading.
+fn test_hand(s: &[u8], header: Header, side: u16, row: u16) -> Result<(), Refusal>
+    requires record_over { RecordOver s.now header.n }
+    requires holds { letter_of header.hold ≡ hold_of s.now }
+    ensures { told result ≡ refused (hand_refusal s.now (hand side row)) }
 {
-    if !is_side(side) {
-        return SIDE;
+    let side = Side::try_from(side)?;
+    if !is_row(header.n, row) {
+        return Err(Refusal::Row);
     }
-    if !is_row(n, row) {
-        return ROW;
+    if header.hold.holds(side) {
+        return Err(Refusal::Held);
     }
-    if is_held(hold_of(s), side) {
-        return HELD;
+    if !may_change(row_byte(s, header.n, side, row)) {
+        return Err(Refusal::Pinned);
     }
-    if !may_change(row_byte(s, n, side, row)) {
-        return PINNED;
-    }
-    0
-}
-
-// The refusal of a list of so many entries, or of the record, or 0.
-pub fn list_number(s: &[u8], entries: usize) -> u16
-    ensures { result ≡ 17 when ltb most_hands entries else refusal s.now }
-{
-    if MOST_HANDS < entries {
-        return HANDS;
-    }
-    record::refusal_number(s)
+    Ok(())
 }
 
 // Turns one row of an accepted record over: one layout byte, and no other byte.
-pub fn turn_hand(s: &mut [u8], n: u16, side: u16, row: u16)
+fn turn_hand(s: &mut [u8], n: u16, side: u16, row: u16)
     requires record_over { RecordOver s.old n }
+    requires on_side { is_side side ≡ true }
     requires le_row { (1 ≤ row) × (row < n) }
     ensures { s.new ≡ relaid s.old (handed (layouts_of s.old) (hand side row ∷ [])) }
 {
+    let side = Side::try_from(side).unwrap();
     let x = row_byte(s, n, side, row);
     put_row_byte(s, n, side, row, flipped(x));
 }
 
-// The side and the row of an entry.
-fn side_in(x: u32) -> u16
-    ensures { result ≡ x / 65536 }
+// Tests each entry for an accepted record with that heading; the first bad one decides.
+fn test_each<E: Entry>(s: &[u8], header: Header, list: &[E]) -> Result<(), Refusal>
+    requires record_over { RecordOver s.now header.n }
+    requires holds { letter_of header.hold ≡ hold_of s.now }
+    ensures { told result ≡ refused (entries_refusal s.now (map E.names list.now)) }
 {
-    (x / 65536) as u16
-}
-
-fn row_in(x: u32) -> u16
-    ensures { result ≡ x % 65536 }
-{
-    (x % 65536) as u16
-}
-
-// The refusal of the first bad entry for an accepted record, or 0.
-fn first_bad(s: &[u8], n: u16, list: &[u32]) -> u16
-    requires { RecordOver s.now n }
-    ensures { result ≡ entries_refusal s.now (map hand_of list.now) }
-{
-    let mut i = 0;
-    while i < list.len() {
-        let x = list[i];
-        let k = hand_number(s, n, side_in(x), row_in(x));
-        if k != 0 {
-            return k;
-        }
-        i += 1;
+    for entry in list {
+        test_hand(s, header, entry.side(), entry.row())?;
     }
-    0
+    Ok(())
 }
 
 // Turns each entry's row over, entry after entry, in an accepted record of which no entry is bad.
-fn turn_hands(s: &mut [u8], n: u16, list: &[u32])
+fn turn_good<E: Entry>(s: &mut [u8], n: u16, list: &[E])
     requires record_over { RecordOver s.old n }
-    requires list_value { entries_refusal s.old (map hand_of list.now) ≡ 0 }
-    ensures { s.new ≡ relaid s.old (handed (layouts_of s.old) (map hand_of list.now)) }
+    requires none_bad { entries_refusal s.old (map E.names list.now) ≡ 0 }
+    ensures { s.new ≡ relaid s.old (handed (layouts_of s.old) (map E.names list.now)) }
 {
-    let mut i = 0;
-    while i < list.len() {
-        let x = list[i];
-        turn_hand(s, n, side_in(x), row_in(x));
-        i += 1;
+    for entry in list {
+        turn_hand(s, n, entry.side(), entry.row());
     }
 }
 
 // Turns the rows of a hand list over in any bytes; or the refusal, and the bytes as they were.
-pub fn hands(s: &mut [u8], list: &[u32]) -> Refusal
-    ensures { Hands s.old (map hand_of list.now) result s.new }
+pub fn turn_each<E: Entry>(s: &mut [u8], list: &[E]) -> Result<(), Refusal>
+    ensures { Hands s.old (map E.names list.now) (told result) s.new }
 {
-    let k = list_number(s, list.len());
-    if k != 0 {
-        return told(s, k);
+    if MOST_HANDS < list.len() {
+        return Err(Refusal::Hands);
     }
-    let n = size_of(s);
-    let b = first_bad(s, n, list);
-    if b != 0 {
-        return refused(b);
-    }
-    turn_hands(s, n, list);
-    refused(0)
+    let header = record::read(s)?;
+    test_each(s, header, list)?;
+    turn_good(s, header.n, list);
+    Ok(())
+}
+
+// The same where each entry is one number.
+pub fn hands(s: &mut [u8], list: &[u32]) -> Result<(), Refusal>
+    ensures { Hands s.old (map hand_of list.now) (told result) s.new }
+{
+    turn_each(s, list)
 }

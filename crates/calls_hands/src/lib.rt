@@ -1,6 +1,8 @@
-// Hand lists on any bytes, over plain numbers; and the test and the turning of one entry, for `calls_hand_entries`.
+// Hand lists on any bytes: over plain numbers, and over entries in any other form that says which hand each of them is.
 #![tactic(auto)]
 
+mod entries;
 mod handing;
 
-pub use handing::{hand_number, hands, list_number, turn_hand};
+pub use entries::Entry;
+pub use handing::{hands, turn_each};

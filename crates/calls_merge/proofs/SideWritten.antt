@@ -1,6 +1,6 @@
 -- Writing a side: its refusals, test by test, the rows that are written, and from what the call found to its statement.
 use Prim.Native.Nat.{ℕ, ◌+◌, ◌-◌, ◌*◌, ◌≤◌, ◌<◌}
-use mathlib.Core.Path.{◌≡◌, refl, sym, ap, ◌∙◌}
+use mathlib.Core.Path.{◌≡◌, refl, sym, ap, subst, ◌∙◌}
 use mathlib.Core.Logic.{◌≢◌}
 use mathlib.Core.Bool.{true, false, not}
 use mathlib.Core.List.{List}
@@ -17,18 +17,21 @@ use Rattle.work_trees.specs.Rows.{upper, lower}
 use Rattle.merge.specs.Entries.{entry_for}
 use Rattle.merge.specs.Tables.{table_for}
 use Rattle.merge.proofs.Tables.{table_entry}
+use Rattle.record_fields.specs.declared.refusal.Refusal.{Refusal}
 use Rattle.record_fields.specs.Fields.{two, numbers, size_of, parts, parts_of}
 use Rattle.record_fields.specs.Meaning.{rows_on}
 use Rattle.record_fields.specs.Refusals.{refusal}
-use Rattle.record_fields.specs.Refused.{NumberAndRow, refused}
+use Rattle.record_fields.specs.Refused.{NumberAndRow, refused, refused_row, number_of, row_of}
 use Rattle.record_fields.specs.Told.{told_of, OwnRow}
 use Rattle.record_fields.proofs.Acceptance.{else_first, none_both}
 use Rattle.record_fields.proofs.Heading.{none_first, not_no}
 use Rattle.record_fields.proofs.Meaning.{left-rule, right-rule}
 use Rattle.record_fields.proofs.Refused.{lent-refused, lent-accepted}
 use Rattle.record_fields.proofs.Stores.{sets_front, get_d_made, length-numbers}
-use Rattle.record_fields.proofs.Told.{told_none, alone_when, alone_0, own_when, own_then}
-use Rattle.record_arrays.specs.Sides.{is_side, side_of, rows_at}
+use Rattle.record_fields.proofs.Told.{told_none, told-alone, alone_when, alone_0, own_when, own_then}
+use Rattle.record.specs.Calls.{Reads, Refused}
+use Rattle.record.proofs.Outcomes.{read-told, read-refuses}
+use Rattle.record_arrays.specs.Sides.{is_side, side_of, rows_at, RecordOver}
 use Rattle.calls_merge.specs.Refusals.{written_table, merge_write_refusal}
 use Rattle.calls_merge.specs.Calls.{MergeWrites}
 
@@ -48,20 +51,27 @@ module _ (s : List ℕ) where
   given-rule a left = left-rule s a
   given-rule a right = right-rule s a
 
-  module _ (side : ℕ) where
-    pub length-written : length (written_table s side) ≡ 2 * (size_of s - 1)
-    unfolding written_table table_for
-    length-written = length-map (rows_on (parts s) (side_of side)) (entry_for (size_of s)) ∙ length-given (side_of side)
+  -- the table that says them
+  table_length : (side : Side) → length (table_for (size_of s) (rows_on (parts s) side)) ≡ 2 * (size_of s - 1)
+  unfolding table_for
+  table_length side = length-map (rows_on (parts s) side) (entry_for (size_of s)) ∙ length-given side
+
+  pub length-written : (side : ℕ) → length (written_table s side) ≡ 2 * (size_of s - 1)
+  unfolding written_table
+  length-written side = table_length (side_of side)
+
+  module _ {n : ℕ} (says : size_of s ≡ n) (side : Side) where
+    pub length-table : length (table_for n (rows_on (parts s) side)) ≡ 2 * (n - 1)
+    length-table = subst (λ m. length (table_for m (rows_on (parts s) side)) ≡ 2 * (m - 1)) says (table_length side)
 
     -- entry k is that for the number at its place
-    pub written_entry : {n : ℕ} → size_of s ≡ n → (k : ℕ) → k < 2 * (n - 1) →
-        get_or (written_table s side) k (pos 0) ≡ entry_for n (two s (rows_at n (side_of side) + 2 * k))
-    unfolding written_table numbers
-    written_entry {n} says k h =
-        let at : get_or (rows_on (parts s) (side_of side)) k 0 ≡ two s (rows_at n (side_of side) + 2 * k) =
-        ap (λ r. get_or r k 0) (rows-given says (side_of side)) ∙ get_d_made (λ i. two s (rows_at n (side_of side) + 2 * i)) (2 * (n - 1)) k h in
-        table_entry (size_of s) (rows_on (parts s) (side_of side)) k ∙ ap (entry_for (size_of s)) at
-        ∙ ap (λ m. entry_for m (two s (rows_at n (side_of side) + 2 * k))) says
+    pub its_entry : {at : ℕ} → at ≡ rows_at n side → (k : ℕ) → k < 2 * (n - 1) →
+        entry_for n (two s (at + 2 * k)) ≡ get_or (table_for n (rows_on (parts s) side)) k (pos 0)
+    unfolding numbers
+    its_entry here k h =
+        let at : get_or (rows_on (parts s) side) k 0 ≡ two s (rows_at n side + 2 * k) =
+        ap (λ r. get_or r k 0) (rows-given says side) ∙ get_d_made (λ i. two s (rows_at n side + 2 * i)) (2 * (n - 1)) k h in
+        ap (λ j. entry_for n (two s (j + 2 * k))) here ∙ sym (table_entry n (rows_on (parts s) side) k ∙ ap (entry_for n) at)
 
 -- ---- the refusals
 
@@ -101,21 +111,38 @@ module _ (s : List ℕ) (side : ℕ) (out : List ℤ) where
 
   -- ---- the statement
 
-  pub merge-refused : {k : ℕ} {told : NumberAndRow} → told ≡ told_of s k → k ≡ merge_write_refusal s side out → k ≢ 0 →
+  merge-refused : {k : ℕ} {told : NumberAndRow} → told ≡ told_of s k → k ≡ merge_write_refusal s side out → k ≢ 0 →
       MergeWrites s side out told out
   merge-refused {k} t e h = record {
     answers = t ∙ ap (told_of s) e;
     afterwards = rw (← e) (lent-refused k (written_table s side) out h);
   }
 
-  pub merge-accepted : {told : NumberAndRow} {after : List ℤ} → told ≡ refused 0 → merge_write_refusal s side out ≡ 0 →
-      after ≡ sets out 0 (written_table s side) → MergeWrites s side out told after
-  merge-accepted t a w =
-      let good = merging_good a in
-      let fits : length (written_table s side) ≤ length out = omega (arith, length-written s side, good.2) in
-      record {
-        answers = t ∙ told_none (parts s) a;
-        afterwards =
-            w ∙ sets_front out (written_table s side) fits
-            ∙ lent-accepted (merge_write_refusal s side out) (written_table s side) out a;
-      }
+  pub merge-no_side : is_side side ≡ false → MergeWrites s side out (refused 13) out
+  merge-no_side h = merge-refused (told-alone (parts s) (record { alone = refl })) (merging_13 h) (λ z. omega (arith, z))
+
+  module _ (good : is_side side ≡ true) where
+    pub merge-no_record : (r : Refusal) → Reads s (Refused (refused_row (number_of r) (row_of r))) →
+        MergeWrites s side out (refused_row (number_of r) (row_of r)) out
+    merge-no_record r found =
+        let some = read-refuses s r found in merge-refused (read-told s r found) (merging_record good some) some
+
+    module _ {n : ℕ} (over : RecordOver s n) where
+      pub merge-no_room : length out < 2 * (n - 1) → MergeWrites s side out (refused 14) out
+      merge-no_room p =
+          merge-refused (told-alone (parts s) (record { alone = refl })) (merging_14 good over.accepted (rw over.sized.says p))
+          (λ z. omega (arith, z))
+
+      pub merge-written : {its : Side} {after : List ℤ} → side_of side ≡ its → 2 * (n - 1) ≤ length out →
+          after ≡ sets out 0 (table_for n (rows_on (parts s) its)) → MergeWrites s side out (refused 0) after
+      unfolding written_table
+      merge-written {its} same room w =
+          let a = sym (merging_0 good over.accepted (rw over.sized.says room)) in
+          let fits : length (written_table s side) ≤ length out = omega (arith, length-written s side, over.sized.says) in
+          let table : table_for n (rows_on (parts s) its) ≡ written_table s side = rw (← same, over.sized.says) refl in
+          record {
+            answers = told_none (parts s) a;
+            afterwards =
+                w ∙ ap (sets out 0) table ∙ sets_front out (written_table s side) fits
+                ∙ lent-accepted (merge_write_refusal s side out) (written_table s side) out a;
+          }

@@ -12,10 +12,11 @@ use lib.ListN.{length}
 use lib.Seq.{sets}
 use Rattle.merge.specs.Tables.{rows_in, some_none, twice, Pairs}
 use Rattle.merge.proofs.Tables.{length-rows}
+use Rattle.record_fields.specs.declared.refusal.Refusal.{Refusal}
 use Rattle.record_fields.specs.Refusals.{no_size}
-use Rattle.record_fields.specs.Refused.{NumberAndRow, refused}
+use Rattle.record_fields.specs.Refused.{refused, refused_row, number_of, row_of}
 use Rattle.record_fields.proofs.Heading.{sized, none_first, not_no}
-use Rattle.record_fields.proofs.Refused.{lent-refused, lent-accepted}
+use Rattle.record_fields.proofs.Refused.{lent-refused, lent-accepted, refused-some}
 use Rattle.record_fields.proofs.Stores.{sets_front}
 use Rattle.calls_merge.specs.Refusals.{merge_read_refusal}
 use Rattle.calls_merge.specs.Calls.{MergeReads}
@@ -79,19 +80,21 @@ module _ (n : ℕ) (table : List ℤ) (out : List ℕ) where
 
   -- ---- the statement
 
-  pub read_refused : {k : ℕ} {told : NumberAndRow} → told ≡ refused k → k ≡ merge_read_refusal n table out → k ≢ 0 →
-      MergeReads n table out told out
-  read_refused {k} t e h = record {
-    answers = t ∙ ap refused e;
-    afterwards = rw (← e) (lent-refused k (rows_in n table) out h);
+  pub read_refused : (r : Refusal) → row_of r ≡ 0 → number_of r ≡ merge_read_refusal n table out →
+      MergeReads n table out (refused_row (number_of r) (row_of r)) out
+  read_refused r none e = record {
+    answers = rw none (ap refused e);
+    afterwards = rw (← e) (lent-refused (number_of r) (rows_in n table) out (refused-some r));
   }
 
-  pub read-accepted : {told : NumberAndRow} {after : List ℕ} → told ≡ refused 0 → merge_read_refusal n table out ≡ 0 →
-      after ≡ sets out 0 (rows_in n table) → MergeReads n table out told after
-  read-accepted t a w =
-      let g = reading-good a in
+  pub read-accepted : {after : List ℕ} → 0 ≡ merge_read_refusal n table out → after ≡ sets out 0 (rows_in n table) →
+      MergeReads n table out (refused 0) after
+  read-accepted a w =
+      let g = reading-good (sym a) in
       let fits : length (rows_in n table) ≤ length out = omega (arith, length-rows n table, g.its-pairs.long, g.room) in
       record {
-        answers = t ∙ ap refused (sym a);
-        afterwards = w ∙ sets_front out (rows_in n table) fits ∙ lent-accepted (merge_read_refusal n table out) (rows_in n table) out a;
+        answers = ap refused a;
+        afterwards =
+            w ∙ sets_front out (rows_in n table) fits
+            ∙ lent-accepted (merge_read_refusal n table out) (rows_in n table) out (sym a);
       }

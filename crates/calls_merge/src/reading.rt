@@ -1,44 +1,32 @@
 // A table read: n and the table's length, then each test over the whole table, then the room; only then are rows
 // written.
-ghost use Rattle.std.specs.Prelude.{◌≡◌};
 ghost use Rattle.calls_merge.specs.Calls.{MergeReads};
-ghost use Rattle.calls_merge.specs.Refusals.{merge_read_refusal};
+ghost use Rattle.record_fields.specs.Refused.{told};
 
 use record::heading::no_size;
-use record_fields::refusal::{ENTRY, LENGTH, ROOM, Refusal, SIZE, TWICE, refused};
+use record_fields::refusal::Refusal;
 use work_merge::{any_names_none, any_twice, rows_out};
 
-// The refusal of reading a table over n leaves, or 0.
-fn reading_number(n: u16, table: &[i32], out: &[u16]) -> u16
-    ensures { result ≡ merge_read_refusal n table.now out.now }
+// The rows that any table over n leaves says, into a buffer's first places; or the refusal, and the buffer as it was.
+pub fn merge_read(n: u16, table: &[i32], out: &mut [u16]) -> Result<(), Refusal>
+    ensures { MergeReads n table.now out.old (told result) out.new }
 {
     if no_size(n) {
-        return SIZE;
+        return Err(Refusal::Size);
     }
     let m = 2 * (n as usize - 1);
     if table.len() != m {
-        return LENGTH;
+        return Err(Refusal::Length);
     }
     if any_names_none(table, n) {
-        return ENTRY;
+        return Err(Refusal::Entry);
     }
     if any_twice(table, n) {
-        return TWICE;
+        return Err(Refusal::Twice);
     }
     if out.len() < m {
-        return ROOM;
-    }
-    0
-}
-
-// The rows that any table over n leaves says, into a buffer's first places; or the refusal, and the buffer as it was.
-pub fn merge_read(n: u16, table: &[i32], out: &mut [u16]) -> Refusal
-    ensures { MergeReads n table.now out.old result out.new }
-{
-    let k = reading_number(n, table, out);
-    if k != 0 {
-        return refused(k);
+        return Err(Refusal::Room);
     }
     rows_out(table, n, out);
-    refused(0)
+    Ok(())
 }

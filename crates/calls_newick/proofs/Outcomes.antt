@@ -1,5 +1,5 @@
 -- From what a call found to its statement.
-use Prim.Native.Nat.{ℕ, ◌≤◌, ◌<◌}
+use Prim.Native.Nat.{ℕ, ◌-◌, ◌*◌, ◌≤◌, ◌<◌}
 use mathlib.Core.Path.{◌≡◌, refl, ap, ◌∙◌}
 use mathlib.Core.Logic.{◌≢◌}
 use mathlib.Core.Bool.{Bool, true, false, cond, not}
@@ -11,17 +11,19 @@ use lib.ListN.{length}
 use lib.Seq.{sets}
 use Rattle.newick.specs.Sentence.{leaf_count}
 use Rattle.newick.specs.Rows.{rows_of}
+use Rattle.record_fields.specs.declared.refusal.Refusal.{Refusal}
 use Rattle.record_fields.specs.Fields.{parts}
 use Rattle.record_fields.specs.Refusals.{refusal}
-use Rattle.record_fields.specs.Refused.{NumberAndRow, refused, or_zero}
+use Rattle.record_fields.specs.Refused.{NumberAndRow, refused, refused_row, number_of, row_of, or_zero}
 use Rattle.record_fields.specs.Told.{told_of, OwnRow}
 use Rattle.record_fields.proofs.Acceptance.{else_first, none_both}
 use Rattle.record_fields.proofs.Heading.{none_first, not_no}
 use Rattle.record_fields.proofs.Refused.{lent-refused, lent-accepted}
 use Rattle.record_fields.proofs.Stores.{sets_front}
 use Rattle.record_fields.proofs.Told.{told-alone, alone_when, alone_0, own_when, own_then}
+use Rattle.record.specs.Calls.{Reads, Refused}
+use Rattle.record.proofs.Outcomes.{read-told, read-refuses}
 use Rattle.record_arrays.specs.Sides.{is_side}
-use Rattle.calls_newick.specs.Answers.{NewickRead}
 use Rattle.calls_newick.specs.Answers.{NewickWritten}
 use Rattle.calls_newick.specs.Refusals.{keeps_grammar, said, is_numbered, newick_read_refusal, written_text, newick_write_refusal}
 use Rattle.calls_newick.specs.Calls.{NewickReads, NewickWrites, room_refusal, WritesSide}
@@ -47,22 +49,34 @@ module _ (text out : List ℕ) where
       unfolding newick_read_refusal
       reading_0 h = rw (kept, numbered, le-ltb (length out) (length (rows_of (said text))) h) refl
 
-  pub read_refused : {k : ℕ} {answer : NewickRead} → newick_read_refusal text out ≡ k → k ≢ 0 →
-      answer ≡ record { refusal = refused k; n = 0 } → NewickReads text out answer out
-  read_refused {k} e h a = record {
-    answers = a ∙ rw (e, ne_eqb k 0 h) refl;
+  read_refused : {k : ℕ} → newick_read_refusal text out ≡ k → k ≢ 0 → NewickReads text out (record { refusal = refused k; n = 0 }) out
+  read_refused {k} e h = record {
+    answers = rw (e, ne_eqb k 0 h) refl;
     afterwards = rw e (lent-refused k (rows_of (said text)) out h);
   }
 
-  pub read-accepted : {n : ℕ} {told : NumberAndRow} {after rows : List ℕ} → told ≡ refused 0 → newick_read_refusal text out ≡ 0 →
-      n ≡ leaf_count (said text) → rows ≡ rows_of (said text) → length (rows_of (said text)) ≤ length out → after ≡ sets out 0 rows →
-      NewickReads text out (record { refusal = told; n = n }) after
-  read-accepted t a e r h w = record {
-    answers = rw (a, t, e) refl;
-    afterwards =
-        w ∙ ap (sets out 0) r ∙ sets_front out (rows_of (said text)) h
-        ∙ lent-accepted (newick_read_refusal text out) (rows_of (said text)) out a;
-  }
+  pub read-no_grammar : keeps_grammar text ≡ false → NewickReads text out (record { refusal = refused 18; n = 0 }) out
+  read-no_grammar e = read_refused (reading_18 e) (λ z. omega (arith, z))
+
+  module _ (kept : keeps_grammar text ≡ true) where
+    pub read-no_leaves : is_numbered (said text) ≡ false → NewickReads text out (record { refusal = refused 19; n = 0 }) out
+    read-no_leaves e = read_refused (reading_19 kept e) (λ z. omega (arith, z))
+
+    module _ (numbered : is_numbered (said text) ≡ true) (n : ℕ) (long : length (rows_of (said text)) ≡ 2 * (n - 1)) where
+      pub read-no_room : length out < 2 * (n - 1) → NewickReads text out (record { refusal = refused 14; n = 0 }) out
+      read-no_room h = read_refused (reading_14 kept numbered (rw long h)) (λ z. omega (arith, z))
+
+      pub read-accepted : {after rows : List ℕ} → n ≡ leaf_count (said text) → rows ≡ rows_of (said text) → 2 * (n - 1) ≤ length out →
+          after ≡ sets out 0 rows → NewickReads text out (record { refusal = refused 0; n = n }) after
+      read-accepted e r h w =
+          let fits : length (rows_of (said text)) ≤ length out = rw long h in
+          let a = reading_0 kept numbered fits in
+          record {
+            answers = rw (a, e) refl;
+            afterwards =
+                w ∙ ap (sets out 0) r ∙ sets_front out (rows_of (said text)) fits
+                ∙ lent-accepted (newick_read_refusal text out) (rows_of (said text)) out a;
+          }
 
 -- ---- writing
 
@@ -73,22 +87,20 @@ module _ (s : List ℕ) (side : ℕ) (out : List ℕ) where
   pub room_0 : length (written_text s side) ≤ length out → room_refusal s side out ≡ 0
   room_0 h = rw (le-ltb (length out) (length (written_text s side)) h) refl
 
-  pub side_no_room : {answer : NewickWritten} → length out < length (written_text s side) →
-      answer ≡ record { refusal = refused 14; length = 0 } → WritesSide s side out answer out
-  side_no_room h a =
+  pub side_no_room : length out < length (written_text s side) → WritesSide s side out (record { refusal = refused 14; length = 0 }) out
+  side_no_room h =
       let e = room_14 h in
       record {
-        answers = a ∙ rw e refl;
+        answers = rw e refl;
         afterwards = rw e refl;
       }
 
-  pub side-written : {told : NumberAndRow} {m : ℕ} {after : List ℕ} → told ≡ refused 0 → m ≡ length (written_text s side) →
-      length (written_text s side) ≤ length out → after ≡ sets out 0 (written_text s side) →
-      WritesSide s side out (record { refusal = told; length = m }) after
-  side-written t e h w =
+  pub side-written : {m : ℕ} {after : List ℕ} → m ≡ length (written_text s side) → length (written_text s side) ≤ length out →
+      after ≡ sets out 0 (written_text s side) → WritesSide s side out (record { refusal = refused 0; length = m }) after
+  side-written e h w =
       let a = room_0 h in
       record {
-        answers = rw (a, t, e) refl;
+        answers = rw (a, e) refl;
         afterwards = w ∙ sets_front out (written_text s side) h ∙ lent-accepted (room_refusal s side out) (written_text s side) out a;
       }
 
@@ -122,7 +134,8 @@ module _ (s : List ℕ) (side : ℕ) (out : List ℕ) where
         }
 
   -- where it is not refused
-  pub writing-good : newick_write_refusal s side out ≡ 0 → (is_side side ≡ true) × (refusal s ≡ 0) × (length (written_text s side) ≤ length out)
+  pub writing-good : newick_write_refusal s side out ≡ 0 →
+      (is_side side ≡ true) × (refusal s ≡ 0) × (length (written_text s side) ≤ length out)
   unfolding newick_write_refusal
   writing-good e =
       let t = none_first _ 13 _ (omega arith) e in
@@ -137,9 +150,17 @@ module _ (s : List ℕ) (side : ℕ) (out : List ℕ) where
       rw e (own_when s (not (is_side side)) 13 refl
       (own_then s (alone_when (ltb (length out) (length (written_text s side))) 14 refl alone_0)))
 
-  pub write-refused : {k : ℕ} {told : NumberAndRow} → told ≡ told_of s k → newick_write_refusal s side out ≡ k → k ≢ 0 →
+  write-refused : {k : ℕ} {told : NumberAndRow} → told ≡ told_of s k → newick_write_refusal s side out ≡ k → k ≢ 0 →
       NewickWrites s side out (record { refusal = told; length = 0 }) out
   write-refused {k} t e h = record {
     answers = rw (t, e, ne_eqb k 0 h) refl;
     afterwards = rw e (lent-refused k (written_text s side) out h);
   }
+
+  pub write-no_side : is_side side ≡ false → NewickWrites s side out (record { refusal = refused 13; length = 0 }) out
+  write-no_side h = write-refused (told-alone (parts s) (record { alone = refl })) (writing_13 h) (λ z. omega (arith, z))
+
+  pub write-no_record : is_side side ≡ true → (r : Refusal) → Reads s (Refused (refused_row (number_of r) (row_of r))) →
+      NewickWrites s side out (record { refusal = refused_row (number_of r) (row_of r); length = 0 }) out
+  write-no_record good r found =
+      let some = read-refuses s r found in write-refused (read-told s r found) (writing_record good some) some

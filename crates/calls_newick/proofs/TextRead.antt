@@ -1,4 +1,5 @@
 -- From the notes of a text that was read to what its sentence says: n, whether its leaves are 1 to n, and its rows.
+use Rattle.std.specs.Prelude.{Some, None}
 use Prim.Native.Nat.{ℕ, ◌+◌, ◌-◌, ◌*◌, ◌≤◌, ◌<◌}
 use mathlib.Core.Path.{◌≡◌, refl, sym, ap, ap₂, ◌∙◌}
 use mathlib.Core.Logic.{◌≢◌}
@@ -21,6 +22,7 @@ use Rattle.newick.proofs.Noted.{noted_once, fixed-rows, leaves-noted}
 use Rattle.work_newick_reading.specs.Notes.{closed_in, last_in, Noted}
 use Rattle.work_newick_reading.specs.Reads.{ReadsWhole}
 use Rattle.work_newick_reading.specs.Once.{fresh}
+use Rattle.work_newick_reading.proofs.NotesView.{counted}
 use Rattle.work_newick_reading.proofs.OnceLaws.{true-false}
 use Rattle.work_newick_reading.proofs.Fresh.{fresh-perm}
 use Rattle.record_fields.specs.Refusals.{one_to_one}
@@ -41,14 +43,33 @@ kept_cases : (R : Read) (T : List ℕ) (r : Bool) → ReadsWhole R zeros T r →
 kept_cases broken T r h e = true-false (sym e ∙ h)
 kept_cases (read s rest) T r h e = (refl, h.1)
 
-module _ (text T : List ℕ) (r : Bool) (h : ReadsWhole (text_read text) zeros T r) where
+module _ (text T : List ℕ) {T₀ : List ℕ} {r : Bool} (none : T₀ ≡ zeros) (h : ReadsWhole (text_read text) T₀ T r) where
   pub grammar_broken : r ≡ false → keeps_grammar text ≡ false
   unfolding keeps_grammar
-  grammar_broken e = broken_cases (text_read text) T r h e
+  grammar_broken e = broken_cases (text_read text) T r (rw none at h) e
 
   pub grammar_kept : r ≡ true → (keeps_grammar text ≡ true) × Noted (said text) zeros T
   unfolding keeps_grammar said
-  grammar_kept e = kept_cases (text_read text) T r h e
+  grammar_kept e = kept_cases (text_read text) T r (rw none at h) e
+
+-- a text that keeps it, and whose leaves are counted
+module _ (text T : List ℕ) (n : ℕ) where
+  pub record Counted : Type 0 where
+    pub kept : keeps_grammar text ≡ true
+    pub its-notes : Noted (said text) zeros T
+    pub is-n : n ≡ cond (eqb (closed_in T) 512) 0 (closed_in T + 1)
+    pub some : n ≢ 0
+
+  pub text-counted : (keeps_grammar text ≡ true) × Noted (said text) zeros T →
+      Some n ≡ cond (eqb (closed_in T) 512) None (Some (closed_in T + 1)) → Counted
+  text-counted k e =
+      let c = counted n (closed_in T) e in
+      record {
+        kept = k.0;
+        its-notes = k.1;
+        is-n = c.0;
+        some = c.1;
+      }
 
 -- ---- as many leaves are noted as there are
 

@@ -1,5 +1,5 @@
--- What the calls answer, in numbers: each carries its refusal, and zero for its other number where it refuses. And what a call's result says
--- of that.
+-- What the calls answer, in numbers: each carries its refusal, and zero for its other number where it refuses. And what a call's result
+-- says of that.
 use Rattle.std.specs.Prelude.{ℕ, Result, Ok, Err}
 use Rattle.record_fields.specs.declared.refusal.Refusal.{Refusal}
 use Rattle.record_fields.specs.Refused.{NumberAndRow, refused, refused_row, number_of, row_of}

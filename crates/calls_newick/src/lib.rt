@@ -1,7 +1,6 @@
 // The calls on Newick text: a text read into rows, and a side of a record written as text.
 #![tactic(auto)]
 
-pub mod answers;
 mod reading;
 mod writing;
 

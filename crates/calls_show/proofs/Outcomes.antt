@@ -8,9 +8,8 @@ use native.Mathlib.Omega.{arith}
 use borrow.Author.Tests.{eq-eqb, ne_eqb, eqb-true, lt-ltb, le-ltb, ltb-false}
 use lib.Dec.{eqb, ltb}
 use lib.ListN.{length, take, drop}
-use lib.Seq.{sets}
-use Rattle.tanglegram.specs.Entanglement.{displacement, worst, Thousandths}
-use Rattle.tanglegram.specs.declared.side.Side.TheVariants.{Left as left, Right as right}
+use Rattle.tanglegram.specs.Entanglement.{worst}
+use Rattle.tanglegram.specs.declared.side.Side.{Side}
 use Rattle.tanglegram.proofs.Lists.{all-length}
 use Rattle.tanglegram.proofs.Entanglement.{worst-most}
 use Rattle.tanglegram.proofs.Thousandths.{only_one, worst_positive}
@@ -21,46 +20,49 @@ use Rattle.record_fields.specs.Told.{told_of, OwnRow}
 use Rattle.record_fields.proofs.Acceptance.{accepted-sized, else_first, none_both}
 use Rattle.record_fields.proofs.Heading.{none_first, not_no}
 use Rattle.record_fields.proofs.Refused.{lent-refused, lent-accepted}
-use Rattle.record_fields.proofs.Told.{told_none, alone_when, alone_0, own_when, own_then}
-use Rattle.record_fields.proofs.Stores.{sets_front}
+use Rattle.record_fields.proofs.Told.{told_none, told-alone, alone_when, alone_0, own_when, own_then}
 use Rattle.calls_show.specs.Answers.{Ratio, NoRatio, Refused}
 use Rattle.calls_show.specs.InThousandths.{InThousandths}
 use Rattle.calls_show.specs.InThousandths as in_thousandths
-use Rattle.record_arrays.specs.Sides.{is_side, side_of}
+use Rattle.record_arrays.specs.Sides.{is_side, side_of, RecordOver}
 use Rattle.calls_show.specs.Refusals.{order_refusal}
-use Rattle.record_arrays.specs.Shown.{shown_order, shown_count}
+use Rattle.record_arrays.specs.Shown.{shown_order, shown_count, shown_displacement}
 use Rattle.calls_show.specs.Calls.{Orders, Counts, ratio, squared_entanglement, SquaredEntangles, squared_refusal}
-use Rattle.calls_show.specs.Calls.{ThousandthsOf, thousandths_refusal, TellsThousandths}
-use Rattle.record_arrays.proofs.AsItStands.{side-perm, over_n}
+use Rattle.calls_show.specs.Calls.{ThousandthsOf, thousandths_refusal}
+use Rattle.record_arrays.proofs.AsItStands.{side-perm}
 use Rattle.record_arrays.proofs.Apart.{order-taken}
 use Rattle.calls_show.proofs.Shown.{displacement-at-most}
 
 module _ (s : List ℕ) where
   -- ---- counts
 
-  pub count-refused : {k : ℕ} {told : NumberAndRow} → told ≡ told_of s k → k ≡ refusal s → k ≢ 0 →
-      Counts s (record { refusal = told; count = 0 })
-  count-refused {k} t e h = record { answers = rw (t, ← e, ne_eqb k 0 h) refl }
+  pub count-refused : {answer : NumberAndRow} → answer ≡ told_of s (refusal s) → refusal s ≢ 0 →
+      Counts s (record { refusal = answer; count = 0 })
+  count-refused t h = record { answers = rw (t, ne_eqb (refusal s) 0 h) refl }
 
-  pub count-accepted : {r : ℕ} {told : NumberAndRow} → told ≡ refused 0 → refusal s ≡ 0 → r ≡ shown_count s →
-      Counts s (record { refusal = told; count = r })
-  count-accepted t a e = record { answers = rw (t ∙ told_none (parts s) a, a, e) refl }
+  pub count-accepted : {r : ℕ} → refusal s ≡ 0 → r ≡ shown_count s → Counts s (record { refusal = refused 0; count = r })
+  count-accepted a e = record { answers = rw (told_none (parts s) a, a, e) refl }
 
   -- ---- squared entanglement
 
-  pub squared-refused : {k : ℕ} {told : NumberAndRow} → told ≡ told_of s k → k ≡ refusal s → k ≢ 0 → SquaredEntangles s (Refused told)
+  pub squared-refused : {answer : NumberAndRow} → refusal s ≢ 0 → answer ≡ told_of s (refusal s) → SquaredEntangles s (Refused answer)
   unfolding squared_entanglement
-  squared-refused {k} t e h = record { answers = ap Refused t ∙ rw (← e, ne_eqb k 0 h) refl }
+  squared-refused h t = record { answers = ap Refused t ∙ rw (ne_eqb (refusal s) 0 h) refl }
 
-  module _ (a : refusal s ≡ 0) {n : ℕ} (e : n ≡ size_of s) where
-    pub squared-none : n ≡ 1 → SquaredEntangles s NoRatio
+  module _ (a : refusal s ≡ 0) where
+    pub squared-none : size_of s ≡ 1 → SquaredEntangles s NoRatio
     unfolding squared_entanglement
-    squared-none h = record { answers = rw (a, eq-eqb (size_of s) 1 (sym e ∙ h)) refl }
+    squared-none h = record { answers = rw (a, eq-eqb (size_of s) 1 h) refl }
 
-    pub squared-ratio : {d w : ℕ} → n ≢ 1 → d ≡ displacement n (parts s).links (shown_order s left) (shown_order s right) → w ≡ worst n →
-        SquaredEntangles s (Ratio d w (ratio d w))
-    unfolding squared_entanglement
-    squared-ratio h p q = record { answers = rw (a, ne_eqb (size_of s) 1 (λ z. h (e ∙ z)), p, q, e) refl }
+    module _ {d w : ℕ} (h : 2 ≤ size_of s) (p : d ≡ shown_displacement s) (q : w ≡ worst (size_of s)) where
+      pub squared-ratio : SquaredEntangles s (Ratio d w (ratio d w))
+      unfolding squared_entanglement
+      squared-ratio = record { answers = rw (a, ne_eqb (size_of s) 1 (λ z. omega (arith, h, z)), p, q) refl }
+
+      -- D and W are as the work in thousandths asks
+      pub thousandths_asked : (0 < w) × (d ≤ w) × (w ≤ 44739072)
+      thousandths_asked =
+          rw (p, q) (worst_positive (size_of s) h, displacement-at-most s a, worst-most (size_of s) (accepted-sized s a).most)
 
   -- its refusal, case by case
   pub squared-told : squared_refusal (squared_entanglement s) ≡ told_of s (refusal s)
@@ -76,28 +78,6 @@ module _ (s : List ℕ) where
 -- ---- entanglement in thousandths
 
 module _ (s : List ℕ) where
-  pub thousandths-refused : {k : ℕ} {told : NumberAndRow} → told ≡ told_of s k → k ≡ refusal s → k ≢ 0 →
-      TellsThousandths s (in_thousandths.Refused told)
-  thousandths-refused t e h = record { answers = (λ z. h (e ∙ z), t ∙ ap (told_of s) e) }
-
-  module _ (a : refusal s ≡ 0) {n : ℕ} (e : n ≡ size_of s) where
-    pub thousandths-none : n ≡ 1 → TellsThousandths s in_thousandths.NoRatio
-    thousandths-none h = record { answers = (a, sym e ∙ h) }
-
-    module _ (h : n ≢ 1) {d w : ℕ} (p : d ≡ displacement n (parts s).links (shown_order s left) (shown_order s right)) (q : w ≡ worst n)
-      where
-        two-leaves : 2 ≤ size_of s
-        two-leaves = let some = (accepted-sized s a).some in let other : size_of s ≢ 1 = λ z. h (e ∙ z) in omega (arith, some, other)
-
-        -- D and W are as the work asks
-        pub thousandths_asked : (0 < w) × (d ≤ w) × (w ≤ 44739072)
-        thousandths_asked =
-            rw (p, q, e)
-            (worst_positive (size_of s) two-leaves, displacement-at-most s a, worst-most (size_of s) (accepted-sized s a).most)
-
-        pub thousandths-ratio : {k : ℕ} → Thousandths d w k → TellsThousandths s (in_thousandths.Ratio k)
-        thousandths-ratio t = record { answers = (a, two-leaves, rw (p, q, e) at t) }
-
   -- there is one answer only
   pub one_thousandths : (a b : InThousandths) → ThousandthsOf s a → ThousandthsOf s b → a ≡ b
   one_thousandths (in_thousandths.Ratio j) (in_thousandths.Ratio k) p q = ap in_thousandths.Ratio (only_one _ _ q.2 p.2)
@@ -151,23 +131,34 @@ module _ (s : List ℕ) (side : ℕ) (out : List ℕ) where
   unfolding order_refusal
   order-own e = rw e (own_when s (not (is_side side)) 13 refl (own_then s (alone_when (ltb (length out) (size_of s)) 14 refl alone_0)))
 
-  pub order_refused : {k : ℕ} {told : NumberAndRow} → told ≡ told_of s k → k ≡ order_refusal s side out → k ≢ 0 → Orders s side out told out
-  order_refused {k} t e h = record {
+  order_refused : {k : ℕ} {answer : NumberAndRow} → k ≡ order_refusal s side out → k ≢ 0 → answer ≡ told_of s k →
+      Orders s side out answer out
+  order_refused {k} e h t = record {
     answers = t ∙ ap (told_of s) e;
     afterwards = rw (← e) (lent-refused k (shown_order s (side_of side)) out h);
   }
 
-  pub order-accepted : (n : ℕ) (A found after : List ℕ) {told : NumberAndRow} → told ≡ refused 0 → order_refusal s side out ≡ 0 → n ≡ size_of s →
-      A ≡ shown_order s (side_of side) ++ drop n found → after ≡ sets out 0 (take n A) → Orders s side out told after
-  order-accepted n A found after t a e h w =
-      let good = ordering_good a in
-      let g = over_n s good.1 e in
-      let taken = order-taken s n g (side_of side) A found h in
-      let long = all-length n _ (side-perm s n g (side_of side)) in
-      record {
-        answers = t ∙ told_none (parts s) a;
-        afterwards =
-            w ∙ ap (sets out 0) taken
-            ∙ sets_front out (shown_order s (side_of side)) (omega (arith, good.2, long))
-            ∙ lent-accepted (order_refusal s side out) (shown_order s (side_of side)) out a;
-      }
+  pub order-no-side : is_side side ≡ false → Orders s side out (refused 13) out
+  order-no-side h = order_refused (ordering_13 h) (λ e. omega (arith, e)) (told-alone (parts s) (record { alone = refl }))
+
+  module _ (good : is_side side ≡ true) where
+    pub order-record : {answer : NumberAndRow} → refusal s ≢ 0 → answer ≡ told_of s (refusal s) → Orders s side out answer out
+    order-record h t = order_refused (ordering_record good h) h t
+
+    module _ (n : ℕ) (over : RecordOver s n) where
+      pub order-no-room : length out < n → Orders s side out (refused 14) out
+      order-no-room p =
+          order_refused (ordering_14 good over.accepted (rw over.sized.says p)) (λ e. omega (arith, e))
+          (told-alone (parts s) (record { alone = refl }))
+
+      pub order-made : {x : Side} (A found front : List ℕ) → n ≤ length out → side_of side ≡ x → A ≡ shown_order s x ++ drop n found →
+          front ≡ take n A → Orders s side out (refused 0) (front ++ drop n out)
+      order-made {x} A found front p f made w =
+          let z : order_refusal s side out ≡ 0 = sym (ordering_0 good over.accepted (rw over.sized.says p)) in
+          record {
+            answers = told_none (parts s) z;
+            afterwards =
+                ap (λ l. l ++ drop n out) (w ∙ order-taken s n over x A found made)
+                ∙ ap (λ k. shown_order s x ++ drop k out) (sym (all-length n _ (side-perm s n over x)))
+                ∙ rw f (lent-accepted (order_refusal s side out) (shown_order s x) out z);
+          }

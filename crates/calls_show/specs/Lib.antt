@@ -1,4 +1,5 @@
 pub mod Answers
 pub mod InThousandths
 pub mod Refusals
+pub mod Displaced
 pub mod Calls

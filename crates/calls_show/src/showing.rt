@@ -1,112 +1,83 @@
 // The calls that only show: a side's order, the count by seen places and pair by pair, the entanglement squared and in
 // thousandths.
-ghost use Rattle.std.specs.Prelude.{◌≡◌};
+ghost use Rattle.calls_show.specs.Answers.{counted, squared};
 ghost use Rattle.calls_show.specs.Calls.{Counts, Orders, SquaredEntangles, TellsThousandths};
-ghost use Rattle.calls_show.specs.Refusals.{order_refusal};
+ghost use Rattle.calls_show.specs.Displaced.{DisplacedOf};
+ghost use Rattle.calls_show.specs.InThousandths.{in_thousandths};
+ghost use Rattle.record_fields.specs.Refused.{told};
 
-use crate::answers::{Counted, InThousandths, SquaredEntanglement};
+use crate::answers::Measured;
 use crate::counting::{record_displaced, record_paired, record_seen};
-use record::told;
-use record_arrays::{is_side, side_order};
-use record_fields::copying::copied;
-use record_fields::refusal::{ROOM, Refusal, SIDE, refused};
-
-// The refusal of asking for a side's order, or 0.
-fn ordering_number(s: &[u8], side: u16, out: &[u16]) -> u16
-    ensures { result ≡ order_refusal s.now side out.now }
-{
-    if !is_side(side) {
-        return SIDE;
-    }
-    let k = record::refusal_number(s);
-    if k != 0 {
-        return k;
-    }
-    if out.len() < record::size_of(s) as usize {
-        return ROOM;
-    }
-    0
-}
+use record::read;
+use record_arrays::side_order;
+use record_fields::refusal::Refusal;
+use tanglegram::Side;
 
 // The order of a side of any bytes, into a buffer's first places; or the refusal, and the buffer as it was.
-pub fn order(s: &[u8], side: u16, out: &mut [u16]) -> Refusal
-    ensures { Orders s.now side out.old result out.new }
+pub fn order(s: &[u8], side: u16, out: &mut [u16]) -> Result<(), Refusal>
+    ensures { Orders s.now side out.old (told result) out.new }
 {
-    let k = ordering_number(s, side, out);
-    if k != 0 {
-        return told(s, k);
+    let side = Side::try_from(side)?;
+    let header = read(s)?;
+    let n = header.n as usize;
+    if out.len() < n {
+        return Err(Refusal::Room);
     }
-    let n = record::size_of(s);
     let mut made = [0u16; 512];
-    side_order(s, n, side, &mut made);
-    copied(&made[..n as usize], out);
-    refused(0)
+    side_order(s, header.n, side, &mut made);
+    out[..n].copy_from_slice(&made[..n]);
+    Ok(())
 }
 
 // The count of any bytes' crossings by seen places, or the refusal.
-pub fn count(s: &[u8]) -> Counted
-    ensures { Counts s.now result }
+pub fn count(s: &[u8]) -> Result<u32, Refusal>
+    ensures { Counts s.now (counted result) }
 {
-    let k = record::refusal_number(s);
-    if k != 0 {
-        return Counted {
-            refusal: told(s, k),
-            count: 0,
-        };
-    }
-    Counted {
-        refusal: refused(0),
-        count: record_seen(s, record::size_of(s)),
-    }
+    let header = read(s)?;
+    Ok(record_seen(s, header.n))
 }
 
 // The same, pair by pair.
-pub fn pairs(s: &[u8]) -> Counted
-    ensures { Counts s.now result }
+pub fn pairs(s: &[u8]) -> Result<u32, Refusal>
+    ensures { Counts s.now (counted result) }
 {
-    let k = record::refusal_number(s);
-    if k != 0 {
-        return Counted {
-            refusal: told(s, k),
-            count: 0,
-        };
+    let header = read(s)?;
+    Ok(record_paired(s, header.n))
+}
+
+// D and W of any bytes, or none for a single leaf, or the refusal.
+fn displaced(s: &[u8]) -> Result<Option<(u32, u32)>, Refusal>
+    ensures { DisplacedOf s.now result }
+{
+    let header = read(s)?;
+    if header.n == 1 {
+        return Ok(None);
     }
-    Counted {
-        refusal: refused(0),
-        count: record_paired(s, record::size_of(s)),
+    let d = record_displaced(s, header.n);
+    let w = work_displacement::worst_value(header.n as usize);
+    Ok(Some((d, w)))
+}
+
+// The squared entanglement of any bytes: D, W and their ratio, or none for a single leaf, or the refusal.
+pub fn squared_entanglement(s: &[u8]) -> Result<Option<Measured>, Refusal>
+    ensures { SquaredEntangles s.now (squared result) }
+{
+    match displaced(s)? {
+        Some((d, w)) => Ok(Some(Measured {
+            displacement: d,
+            worst: w,
+            ratio: (d as f64) / (w as f64),
+        })),
+        None => Ok(None),
     }
 }
 
-// The squared entanglement of any bytes: D, W and their ratio, or no ratio for a single leaf, or the refusal.
-pub fn squared_entanglement(s: &[u8]) -> SquaredEntanglement
-    ensures { SquaredEntangles s.now result }
+// The entanglement of any bytes in thousandths, or none for a single leaf, or the refusal.
+pub fn thousandths(s: &[u8]) -> Result<Option<u32>, Refusal>
+    ensures { TellsThousandths s.now (in_thousandths result) }
 {
-    let k = record::refusal_number(s);
-    if k != 0 {
-        return SquaredEntanglement::Refused(told(s, k));
+    match displaced(s)? {
+        Some((d, w)) => Ok(Some(work_displacement::thousandths(d, w))),
+        None => Ok(None),
     }
-    let n = record::size_of(s);
-    if n == 1 {
-        return SquaredEntanglement::NoRatio;
-    }
-    let d = record_displaced(s, n);
-    let w = work_displacement::worst_value(n as usize);
-    SquaredEntanglement::Ratio(d, w, (d as f64) / (w as f64))
-}
-
-// The entanglement of any bytes in thousandths, or no ratio for a single leaf, or the refusal.
-pub fn thousandths(s: &[u8]) -> InThousandths
-    ensures { TellsThousandths s.now result }
-{
-    let k = record::refusal_number(s);
-    if k != 0 {
-        return InThousandths::Refused(told(s, k));
-    }
-    let n = record::size_of(s);
-    if n == 1 {
-        return InThousandths::NoRatio;
-    }
-    let d = record_displaced(s, n);
-    let w = work_displacement::worst_value(n as usize);
-    InThousandths::Ratio(work_displacement::thousandths(d, w))
 }

@@ -5,7 +5,7 @@ use mathlib.Core.Logic.{◌≢◌}
 use mathlib.Core.Bool.{Bool, true, false, not}
 use mathlib.Core.List.{List, ◌++◌}
 use native.Mathlib.Omega.{arith}
-use borrow.Author.Tests.{lt-ltb, le-ltb, ltb-false, ne_eqb}
+use borrow.Author.Tests.{lt-ltb, le-ltb, ltb-false}
 use lib.Dec.{leb, ltb, lit≤}
 use lib.ListN.{length, take}
 use lib.Seq.{sets, take_at}
@@ -16,15 +16,18 @@ use Rattle.tanglegram.specs.Table.{layout}
 use Rattle.tanglegram.proofs.PinnedAs.{length-pinned_as}
 use Rattle.record_fields.specs.Fields.{size_of, parts}
 use Rattle.record_fields.specs.Refusals.{◌when◌else◌, refusal}
-use Rattle.record_fields.specs.Refused.{NumberAndRow, refused}
+use Rattle.record_fields.specs.declared.refusal.Refusal.{Refusal}
+use Rattle.record_fields.specs.Refused.{NumberAndRow, refused, refused_row, number_of, row_of}
 use Rattle.record_fields.specs.Told.{told_of, OwnRow}
 use Rattle.record_fields.specs.Meaning.{table_of, layouts_of}
 use Rattle.record_fields.proofs.Acceptance.{else_first, none_both}
 use Rattle.record_fields.proofs.Heading.{none_first, not_no}
-use Rattle.record_fields.proofs.Refused.{lent-refused, lent-accepted}
+use Rattle.record_fields.proofs.Refused.{lent-accepted, refused-some, refuses}
 use Rattle.record_fields.proofs.Stores.{sets_front}
-use Rattle.record_fields.proofs.Told.{told_none, alone_when, alone_0, own_when, own_then}
-use Rattle.record_arrays.specs.Sides.{is_side, side_of}
+use Rattle.record_fields.proofs.Told.{told_none, told-alone, alone_when, alone_0, own_when, own_then}
+use Rattle.record.specs.Calls.{Refused, Reads}
+use Rattle.record.proofs.Outcomes.{read-told, read-refuses}
+use Rattle.record_arrays.specs.Sides.{is_side, side_of, RecordOver}
 use Rattle.record_orders.specs.Proposed.{is_order}
 use Rattle.record_orders.proofs.Proposals.{length-shown}
 use Rattle.calls_take_in.specs.Refusals.{shown_on, take_in_refusal}
@@ -79,36 +82,58 @@ module _ (s : List ℕ) (side : ℕ) (xs out : List ℕ) where
     unfolding take_in_refusal
     taking_then a = rw (good, a) refl
 
-    module _ (a : refusal s ≡ 0) {n : ℕ} (e : n ≡ size_of s) {k : ℕ} {lay : List ℕ} (told : OrderTold s n (side_of side) xs k lay) where
-      here : k ≡ (16 when not one else 23 when against else 0)
-      here = rw e at told.told
+  -- ---- what is told, test by test
 
-      pub taking_order : k ≢ 0 → k ≡ take_in_refusal s side xs out
-      unfolding take_in_refusal
-      taking_order z = rw (good, a) (told-first one against (14 when ltb (length out) (size_of s - 1) else 0) here z)
+  abbrev Tells : NumberAndRow → Type 0
+  Tells r = r ≡ told_of s (take_in_refusal s side xs out)
 
-      module _ (none : k ≡ 0) where
-        pub taking_14 : length out < n - 1 → 14 ≡ take_in_refusal s side xs out
-        unfolding take_in_refusal
-        taking_14 h =
-            let short = lt-ltb (length out) (size_of s - 1) (omega (arith, e)) in
-            rw (good, a, short) (told_then one against 14 (sym none ∙ here))
+  -- where anything is refused, nothing is said of the bytes
+  pub taking-refused : (r : Refusal) {lay : List ℕ} → Tells (refused_row (number_of r) (row_of r)) →
+      TakingTold s side xs out (refused_row (number_of r) (row_of r)) lay
+  taking-refused r e = record { told = e; gives = λ z. absurd (refused-some r z) }
 
-        pub taking_0 : n - 1 ≤ length out → 0 ≡ take_in_refusal s side xs out
-        unfolding take_in_refusal
+  pub told-side : is_side side ≡ false → Tells (refused 13)
+  told-side h = told-alone (parts s) (record { alone = refl }) ∙ ap (told_of s) (taking_13 h)
+
+  module _ {side' : Side} (good : (is_side side ≡ true) × (side_of side ≡ side')) where
+    pub told-record : (r : Refusal) → Reads s (Refused (refused_row (number_of r) (row_of r))) →
+        Tells (refused_row (number_of r) (row_of r))
+    told-record r found = read-told s r found ∙ ap (told_of s) (taking_record good.0 (read-refuses s r found))
+
+    module _ {n : ℕ} (g : RecordOver s n) {answer : NumberAndRow} {lay : List ℕ} (told : OrderTold s n side' xs answer lay) where
+      abbrev order-number : ℕ
+      order-number = 16 when not one else 23 when against else 0
+
+      here : answer ≡ refused order-number
+      here = rw (← good.1, ← g.sized.says) at told.told
+
+      pub told-order : (r : Refusal) → refused_row (number_of r) (row_of r) ≡ answer → Tells answer
+      told-order r e =
+          let first = told-first one against (14 when ltb (length out) (size_of s - 1) else 0) refl (refuses r (e ∙ here)) in
+          here
+          ∙ told-alone (parts s) (alone_when (not one) 16 refl (alone_when against 23 refl alone_0))
+          ∙ ap (told_of s) (first ∙ sym (taking_then good.0 g.accepted))
+
+      module _ (none : answer.number ≡ 0) where
+        none-told : 0 ≡ order-number
+        none-told = sym none ∙ ap (λ (a : NumberAndRow). a.number) here
+
+        pub told-room : length out < n - 1 → Tells (refused 14)
+        told-room h =
+            let short = lt-ltb (length out) (size_of s - 1) (omega (arith, g.sized.says)) in
+            told-alone (parts s) (record { alone = refl })
+            ∙ ap (told_of s) (rw (taking_then good.0 g.accepted, short) (told_then one against 14 none-told))
+
+        pub taking_0 : n - 1 ≤ length out → take_in_refusal s side xs out ≡ 0
         taking_0 h =
-            let long = le-ltb (length out) (size_of s - 1) (omega (arith, e)) in
-            rw (good, a, long) (told_then one against 0 (sym none ∙ here))
+            let long = le-ltb (length out) (size_of s - 1) (omega (arith, g.sized.says)) in
+            rw (taking_then good.0 g.accepted, long) (sym (told_then one against 0 none-told))
 
         -- the bytes, in the first places of what was lent for them
         pub taken-first : (rest : List ℕ) → take (size_of s - 1) (lay ++ rest) ≡ taken_bytes s (side_of side) xs
         taken-first rest =
-            let made : lay ≡ taken_bytes s (side_of side) xs = rw e at (told.gives none) in
+            let made : lay ≡ taken_bytes s (side_of side) xs = rw (← good.1, ← g.sized.says) at (told.gives none) in
             rw made (take_at (taken_bytes s (side_of side) xs) rest (size_of s - 1) (length_taken s (side_of side) xs))
-
-  -- where anything is refused, nothing is said of the bytes
-  pub taking_told : {k : ℕ} {lay : List ℕ} → k ≡ take_in_refusal s side xs out → k ≢ 0 → TakingTold s side xs out k lay
-  taking_told e h = record { told = e; gives = λ z. absurd (h z) }
 
   -- where nothing is refused
   pub taking_good : take_in_refusal s side xs out ≡ 0 → Good s side xs out
@@ -139,24 +164,16 @@ module _ (s : List ℕ) (side : ℕ) (xs out : List ℕ) where
 
   -- ---- the statement
 
-  pub take_in_refused : {k : ℕ} {told : NumberAndRow} → told ≡ told_of s k → k ≡ take_in_refusal s side xs out → k ≢ 0 →
-      TakesIn s side xs out (record { refusal = told; count = 0; least = 0 }) out
-  take_in_refused {k} t e h = record {
-    answers = rw (t, ← e, ne_eqb k 0 h) refl;
-    afterwards = lent-refused (take_in_refusal s side xs out) (taken_bytes s (side_of side) xs) out (λ z. h (e ∙ z));
-  }
-
-  pub take_in_accepted : {told : NumberAndRow} {bytes out' : List ℕ} {before after least : ℕ} → told ≡ refused 0 →
-      take_in_refusal s side xs out ≡ 0 → bytes ≡ taken_bytes s (side_of side) xs → out' ≡ sets out 0 bytes →
-      Weighed s (side_of side) bytes before after → least ≡ bit (leb before after) →
-      TakesIn s side xs out (record { refusal = told; count = before; least = least }) out'
-  take_in_accepted t none made w weighed l =
+  pub take_in_accepted : {bytes out' : List ℕ} {before after least : ℕ} {side' : Side} → take_in_refusal s side xs out ≡ 0 →
+      side_of side ≡ side' → bytes ≡ taken_bytes s (side_of side) xs → out' ≡ sets out 0 bytes → Weighed s side' bytes before after →
+      least ≡ bit (leb before after) → TakesIn s side xs out (record { refusal = refused 0; count = before; least = least }) out'
+  take_in_accepted none same made w weighed l =
       let y = side_of side in
       let part = taken_bytes s y xs in
       let room = (taking_good none).room in
-      let h = rw made at weighed in
+      let h = rw (← same, made) at weighed in
       record {
-        answers = rw (t ∙ told_none (parts s) none, none, l, h.counted, h.freed) refl;
+        answers = rw (told_none (parts s) none, none, l, h.counted, h.freed) refl;
         afterwards =
             w ∙ ap (sets out 0) made
             ∙ sets_front out part (omega (arith, length_taken s y xs))

@@ -2,7 +2,7 @@
 -- crosses less, or 0; zero for each where it refuses. And what the call's result says of that.
 use Rattle.std.specs.Prelude.{ℕ, Result, Ok, Err}
 use Rattle.tanglegram.specs.Lists.{bit}
-use Rattle.calls_take_in.specs.declared.answers.Weighed.{Weighed}
+use Rattle.calls_take_in.specs.declared.answers.Weight.{Weight}
 use Rattle.record_fields.specs.declared.refusal.Refusal.{Refusal}
 use Rattle.record_fields.specs.Refused.{NumberAndRow, refused, refused_row, number_of, row_of}
 
@@ -11,6 +11,6 @@ pub record TakenIn : Type 0 where
   pub count : ℕ
   pub least : ℕ
 
-abbrev pub taken_in : Result Weighed Refusal → TakenIn
+abbrev pub taken_in : Result Weight Refusal → TakenIn
 taken_in (Ok x) = record { refusal = refused 0; count = x.count; least = bit x.least }
 taken_in (Err r) = record { refusal = refused_row (number_of r) (row_of r); count = 0; least = 0 }

@@ -1,32 +1,22 @@
--- `merge_write`: a refused call writes nothing; otherwise the side's table stands in the first places.
-use Rattle.std.proofs.Common.{length, sym, true, ◌*◌, ◌-◌, ◌∙◌, ◌≡◌, ◌≤◌}
-use Rattle.record_fields.specs.Fields.{size_of}
-use Rattle.record_fields.specs.Refusals.{refusal}
-use Rattle.record_arrays.specs.Sides.{is_side}
-use Rattle.record_arrays.proofs.AsItStands.{long-enough, over_n}
-use Rattle.calls_merge.proofs.SideWritten.{merging_good, merge-own, merge-refused, merge-accepted}
-use Rattle.calls_merge.proofs.writing.merge_write.Goals.{Else-k-ne0}
+-- `merge_write`: the side, the record and the room are tested, and a refused call writes nothing; otherwise the side's table stands in the
+-- first places.
+use Rattle.std.proofs.lemmas.Result.{err_from_is_err_and}
+use Rattle.calls_merge.proofs.SideWritten.{merge-no_side, merge-no_record, merge-no_room, merge-written}
 use Rattle.calls_merge.proofs.writing.merge_write.Goals as goal
 
-good : (c : Else-k-ne0) →
-    (is_side c.args.side ≡ true) × (refusal c.args.s.now ≡ 0) × (2 * (size_of c.args.s.now - 1) ≤ length c.args.out.now)
-good c = merging_good _ _ _ (sym c.writing_number-k.ensures ∙ c.if-k-ne0.false)
+pub returns-in_err-side : goal.returns-in_err-side
+returns-in_err-side c =
+    let p = err_from_is_err_and c.from_residual.result c.from_residual.ensures.1 in
+    rw (p.1, p.2) (merge-no_side _ _ _ c.in_err-side.ensures)
 
-pub told-requires : goal.told-requires
-told-requires c = merge-own _ _ _ c.writing_number-k.ensures
+pub returns-in_err-n : goal.returns-in_err-n
+returns-in_err-n c =
+    let p = err_from_is_err_and c.from_residual-in_err-n.result c.from_residual-in_err-n.ensures.1 in
+    rw (p.1, p.2) (merge-no_record _ _ _ c.in_ok-side.ensures.0 _ c.in_err-n.ensures.reads)
 
-pub returns-then-k-ne0 : goal.returns-then-k-ne0
-returns-then-k-ne0 c =
-    merge-refused _ _ _ c.told.ensures c.writing_number-k.ensures c.if-k-ne0.true
-
-pub size_of-requires : goal.size_of-requires
-size_of-requires c = long-enough _ (good c).1
-
-pub table_out-requires : goal.table_out-requires
-table_out-requires c =
-    let g = good (goal.at.table_out-requires c).Else-k-ne0 in
-    (over_n _ g.1 c.size_of.ensures, rw c.size_of.ensures g.2)
+pub returns-then-out-n : goal.returns-then-out-n
+returns-then-out-n c = merge-no_room _ _ _ c.in_ok-side.ensures.0 c.in_ok-n.ensures.over.0 c.if-out-n.true
 
 pub returns : goal.returns
 returns c =
-    merge-accepted _ _ _ c.refused.ensures (sym c.writing_number-k.ensures ∙ c.if-k-ne0.false) c.table_out.ensures
+    merge-written _ _ _ c.in_ok-side.ensures.0 c.in_ok-n.ensures.over.0 c.in_ok-side.ensures.1 c.if-out-n.false c.table_out.ensures

@@ -1,38 +1,18 @@
 -- `newick_write`: the side, the record, and then the side's text.
-use Rattle.std.proofs.Common.{arith, refl, sym, ◌∙◌}
-use Rattle.record_fields.specs.Fields.{parts}
-use Rattle.record_fields.proofs.Told.{told-alone, refusal-own}
-use Rattle.record_arrays.proofs.AsItStands.{long-enough, over_n}
-use Rattle.calls_newick.proofs.Outcomes.{writing_13, writing_record, write-refused, write-side}
+use Rattle.std.proofs.lemmas.Result.{err_from_is_err_and}
+use Rattle.calls_newick.proofs.Outcomes.{write-no_side, write-no_record, write-side}
 use Rattle.calls_newick.proofs.writing.newick_write.Goals as goal
 
-pub returns-then-not-is_side : goal.returns-then-not-is_side
-returns-then-not-is_side c =
-    let e = sym c.is_side.ensures ∙ c.if-not-is_side.true in
-    write-refused c.args.s.now c.args.side c.args.out.now
-    (c.refused.ensures ∙ told-alone (parts c.args.s.now) (record { alone = refl }))
-    (writing_13 c.args.s.now c.args.side c.args.out.now e) (omega arith)
+pub returns-in_err-side : goal.returns-in_err-side
+returns-in_err-side c =
+    let p = err_from_is_err_and c.from_residual.result c.from_residual.ensures.1 in
+    rw (p.1, p.2) (write-no_side _ _ _ c.in_err-side.ensures)
 
-pub told-requires : goal.told-requires
-told-requires c = refusal-own _ c.refusal_number-k.ensures
-
-pub returns-then-k-ne0 : goal.returns-then-k-ne0
-returns-then-k-ne0 c =
-    let e = sym c.is_side.ensures ∙ c.if-not-is_side.false in
-    let n = c.refusal_number-k.ensures in
-    write-refused c.args.s.now c.args.side c.args.out.now c.told.ensures
-    (writing_record c.args.s.now c.args.side c.args.out.now e (λ z. c.if-k-ne0.true (n ∙ z)) ∙ sym n)
-    c.if-k-ne0.true
-
-pub size_of-requires : goal.size_of-requires
-size_of-requires c = long-enough _ (sym c.refusal_number-k.ensures ∙ c.if-k-ne0.false)
-
-pub write_side-requires : goal.write_side-requires
-write_side-requires c =
-    over_n _ (sym c.refusal_number-k.ensures ∙ c.if-k-ne0.false) c.size_of.ensures
+pub returns-in_err-n : goal.returns-in_err-n
+returns-in_err-n c =
+    let p = err_from_is_err_and c.from_residual-in_err-n.result c.from_residual-in_err-n.ensures.1 in
+    rw (p.1, p.2) (write-no_record _ _ _ c.in_ok-side.ensures.0 _ c.in_err-n.ensures.reads)
 
 pub returns : goal.returns
 returns c =
-    let good = sym c.is_side.ensures ∙ c.if-not-is_side.false in
-    write-side c.args.s.now c.args.side c.args.out.now good (sym c.refusal_number-k.ensures ∙ c.if-k-ne0.false)
-    c.write_side.ensures
+    write-side _ _ _ c.in_ok-side.ensures.0 c.in_ok-n.ensures.over.0.accepted (c.write_side.ensures c.args.side c.in_ok-side.ensures.1)

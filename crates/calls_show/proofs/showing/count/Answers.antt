@@ -1,25 +1,14 @@
 -- `count`: a refused record answers 0; an accepted one is counted by seen places.
-use Rattle.std.proofs.Common.{sym, ◌∙◌}
-use Rattle.record_fields.proofs.Told.{refusal-own}
-use Rattle.record_arrays.proofs.AsItStands.{long-enough, over_n}
+use Rattle.std.proofs.lemmas.Result.{err_from_is_err_and}
+use Rattle.record.proofs.Outcomes.{read-told, read-refuses}
 use Rattle.calls_show.proofs.Outcomes.{count-refused, count-accepted}
 use Rattle.calls_show.proofs.showing.count.Goals as goal
 
-pub told-requires : goal.told-requires
-told-requires c = refusal-own _ c.refusal_number-k.ensures
-
-pub returns-then-k-ne0 : goal.returns-then-k-ne0
-returns-then-k-ne0 c =
-    count-refused _ c.told.ensures c.refusal_number-k.ensures c.if-k-ne0.true
-
-pub size_of-requires : goal.size_of-requires
-size_of-requires c =
-    long-enough _ (sym c.refusal_number-k.ensures ∙ c.if-k-ne0.false)
-
-pub record_seen-requires : goal.record_seen-requires
-record_seen-requires c =
-    over_n _ (sym c.refusal_number-k.ensures ∙ c.if-k-ne0.false) c.size_of.ensures
+pub returns-in_err-header : goal.returns-in_err-header
+returns-in_err-header c =
+    let p = err_from_is_err_and c.from_residual.result c.from_residual.ensures.1 in
+    let e = c.in_err-header.ensures.reads in
+    rw (p.1, p.2) (count-refused _ (read-told _ _ e) (read-refuses _ _ e))
 
 pub returns : goal.returns
-returns c =
-    count-accepted _ c.refused.ensures (sym c.refusal_number-k.ensures ∙ c.if-k-ne0.false) c.record_seen.ensures
+returns c = count-accepted _ c.in_ok-header.ensures.over.0.accepted c.record_seen.ensures

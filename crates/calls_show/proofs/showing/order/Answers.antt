@@ -1,46 +1,24 @@
 -- `order`: a refused call writes nothing; otherwise the order stands in its first places.
-use Rattle.std.proofs.Common.{arith, length-take-le, refl, sym, ◌∙◌}
-use Rattle.record_arrays.specs.Sides.{side_of}
-use Rattle.record_arrays.proofs.Apart.{order-long}
-use Rattle.record_arrays.proofs.AsItStands.{long-enough, over_n}
-use Rattle.calls_show.proofs.Outcomes.{ordering_good, order-own, order_refused, order-accepted}
+use Rattle.std.proofs.lemmas.Result.{err_from_is_err_and}
+use Rattle.record.proofs.Outcomes.{read-told, read-refuses}
+use Rattle.calls_show.proofs.Outcomes.{order-no-side, order-record, order-no-room, order-made}
 use Rattle.calls_show.proofs.showing.order.Goals as goal
 
-pub told-requires : goal.told-requires
-told-requires c = order-own _ _ _ c.ordering_number-k.ensures
+pub returns-in_err-side : goal.returns-in_err-side
+returns-in_err-side c =
+    let p = err_from_is_err_and c.from_residual.result c.from_residual.ensures.1 in
+    rw (p.1, p.2) (order-no-side _ _ _ c.in_err-side.ensures)
 
-pub returns-then-k-ne0 : goal.returns-then-k-ne0
-returns-then-k-ne0 c =
-    order_refused _ _ _ c.told.ensures c.ordering_number-k.ensures c.if-k-ne0.true
+pub returns-in_err-header : goal.returns-in_err-header
+returns-in_err-header c =
+    let p = err_from_is_err_and c.from_residual-in_err-header.result c.from_residual-in_err-header.ensures.1 in
+    let e = c.in_err-header.ensures.reads in
+    rw (p.1, p.2) (order-record _ _ _ c.in_ok-side.ensures.0 (read-refuses _ _ e) (read-told _ _ e))
 
-pub size_of-n-requires : goal.size_of-n-requires
-size_of-n-requires c =
-    long-enough _ (ordering_good _ _ _ (sym c.ordering_number-k.ensures ∙ c.if-k-ne0.false)).1
-
-pub side_order-requires : goal.side_order-requires
-side_order-requires c =
-    let a = ordering_good _ _ _ (sym c.ordering_number-k.ensures ∙ c.if-k-ne0.false) in
-    (over_n _ a.1 c.size_of-n.ensures, refl)
-
-pub slice_bounds-made-end : goal.slice_bounds-made-end
-slice_bounds-made-end c =
-    let a = ordering_good _ _ _ (sym c.ordering_number-k.ensures ∙ c.if-k-ne0.false) in
-    let side = side_of c.args.side in
-    order-long _ _ (over_n _ a.1 c.size_of-n.ensures) side _ _ c.side_order.ensures
-
-pub slice_bounds-copied-end : goal.slice_bounds-copied-end
-slice_bounds-copied-end c =
-    let a = ordering_good _ _ _ (sym c.ordering_number-k.ensures ∙ c.if-k-ne0.false) in
-    let long = order-long _ _ (over_n _ a.1 c.size_of-n.ensures) (side_of c.args.side) _ _ c.side_order.ensures in
-    sym (length-take-le _ _ long)
-
-pub copied-requires : goal.copied-requires
-copied-requires c =
-    let a = ordering_good _ _ _ (sym c.ordering_number-k.ensures ∙ c.if-k-ne0.false) in
-    let long = order-long _ _ (over_n _ a.1 c.size_of-n.ensures) (side_of c.args.side) _ _ c.side_order.ensures in
-    omega (arith, a.2, c.size_of-n.ensures, length-take-le _ _ long)
+pub returns-then-out-n : goal.returns-then-out-n
+returns-then-out-n c = order-no-room _ _ _ c.in_ok-side.ensures.0 _ c.in_ok-header.ensures.over.0 c.if-out-n.true
 
 pub returns : goal.returns
 returns c =
-    let a = sym c.ordering_number-k.ensures ∙ c.if-k-ne0.false in
-    order-accepted _ _ _ _ _ _ _ c.refused.ensures a c.size_of-n.ensures c.side_order.ensures c.copied.ensures
+    let side = c.in_ok-side.ensures in
+    order-made _ _ _ side.0 _ c.in_ok-header.ensures.over.0 _ _ _ c.if-out-n.false side.1 c.side_order.ensures c.copy_from_slice.ensures.after

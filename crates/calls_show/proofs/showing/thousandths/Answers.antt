@@ -1,38 +1,8 @@
--- `thousandths`: a refusal, a single leaf, and the largest k of a D that is at most W.
-use Rattle.std.proofs.Common.{sym, ◌∙◌}
-use Rattle.record_fields.proofs.Told.{refusal-own}
-use Rattle.record_arrays.proofs.AsItStands.{long-enough, over_n}
-use Rattle.calls_show.proofs.Outcomes.{thousandths-refused, thousandths-none, thousandths_asked, thousandths-ratio}
+-- `thousandths`: D and W of two leaves or more are as the work asks.
+use Rattle.calls_show.proofs.Outcomes.{thousandths_asked}
 use Rattle.calls_show.proofs.showing.thousandths.Goals as goal
-
-pub told-requires : goal.told-requires
-told-requires c = refusal-own _ c.refusal_number-k.ensures
-
-pub returns-then-k-ne0 : goal.returns-then-k-ne0
-returns-then-k-ne0 c =
-    thousandths-refused _ c.told.ensures c.refusal_number-k.ensures c.if-k-ne0.true
-
-pub size_of-n-requires : goal.size_of-n-requires
-size_of-n-requires c = long-enough _ (sym c.refusal_number-k.ensures ∙ c.if-k-ne0.false)
-
-pub returns-then-n-eq1 : goal.returns-then-n-eq1
-returns-then-n-eq1 c =
-    thousandths-none _ (sym c.refusal_number-k.ensures ∙ c.if-k-ne0.false) c.size_of-n.ensures c.if-n-eq1.true
-
-pub record_displaced-d-requires : goal.record_displaced-d-requires
-record_displaced-d-requires c =
-    over_n _ (sym c.refusal_number-k.ensures ∙ c.if-k-ne0.false) c.size_of-n.ensures
-
-pub worst_value-w-requires : goal.worst_value-w-requires
-worst_value-w-requires c =
-    (over_n _ (sym c.refusal_number-k.ensures ∙ c.if-k-ne0.false) c.size_of-n.ensures).sized.most
 
 pub thousandths-requires : goal.thousandths-requires
 thousandths-requires c =
-    thousandths_asked _ (sym c.refusal_number-k.ensures ∙ c.if-k-ne0.false) c.size_of-n.ensures c.if-n-eq1.false
-    c.record_displaced-d.ensures c.worst_value-w.ensures
-
-pub returns : goal.returns
-returns c =
-    thousandths-ratio _ (sym c.refusal_number-k.ensures ∙ c.if-k-ne0.false) c.size_of-n.ensures c.if-n-eq1.false
-    c.record_displaced-d.ensures c.worst_value-w.ensures c.thousandths.ensures
+    let e = rw c.in-Some.is at c.in_ok-d.ensures in
+    thousandths_asked _ e.0 e.1 e.2 e.3
