@@ -16,15 +16,16 @@ use Rattle.record_arrays.proofs.AsItStands.{side-leaves}
 use Rattle.calls_newick.specs.Refusals.{written_text}
 
 module _ (s : List ℕ) (side : Side) where
-  -- the text of a side, and of its rows in memory
+  -- a side's text
   abbrev side_text : List ℕ
   side_text = text_of (sentence_of (layout (layouts_of s) side) ((table_of s).tree side))
 
-  -- the same length for every tree over n leaves
+  -- is as long for every tree over n leaves
   side-long : (n : ℕ) → RecordOver s n → length side_text ≡ text_length n
   side-long n g =
       written-length n (layout (layouts_of s) side) ((table_of s).tree side) g.sized.some g.sized.most (side-leaves s n g side)
 
+  -- its rows in memory have that text, which is not long
   module _ {n : ℕ} {W : List ℕ} (laid : LaidOut ((table_of s).tree side) n (layout (layouts_of s) side) W) where
     pub laid-text : (k : ℕ) → side_of k ≡ side → text_of (sentence_of [] (tree_of W)) ≡ written_text s k
     unfolding written_text

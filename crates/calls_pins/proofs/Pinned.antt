@@ -88,7 +88,8 @@ module _ (s : List ℕ) (side row : ℕ) where
             pin-refused (pinning_15 good g.accepted (row-as ∙ not-false _ (sym e ∙ h))) (λ z. omega (arith, z))
             (told-alone (parts s) (record { alone = refl }))
 
-        pub pin-put : {s' : List ℕ} → there ≡ true → s' ≡ relaid s (pinned_layouts s side row pinned) → Pins s side row pinned (refused 0) s'
+        pub pin-put : {s' : List ℕ} → there ≡ true → s' ≡ relaid s (pinned_layouts s side row pinned) →
+            Pins s side row pinned (refused 0) s'
         pin-put h made =
             let z : pin_refusal s side row ≡ 0 = sym (pinning_0 good g.accepted (row-as ∙ not-true _ (sym e ∙ h))) in
             record { answers = told_none (parts s) z; afterwards = rw z made }

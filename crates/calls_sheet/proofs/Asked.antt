@@ -9,7 +9,7 @@ use borrow.Author.Tests.{ne_eqb}
 use Rattle.tanglegram.specs.declared.side.Side.TheVariants.{Left as left, Right as right}
 use Rattle.record_fields.specs.Fields.{hold_of, most_turns}
 use Rattle.record_fields.specs.Refusals.{refusal}
-use Rattle.record_arrays.specs.Sides.{is_side, holds}
+use Rattle.record_arrays.specs.Sides.{holds}
 use Rattle.calls_turns.specs.Refusals.{no_allowance}
 use Rattle.calls_turns.proofs.Turns.{running_11_left, running_11_right, running_0}
 use Rattle.work_text.specs.Puts.{Puts}
@@ -28,15 +28,6 @@ run-free s a = go (holds (hold_of s) left) refl (holds (hold_of s) right) refl
     go true e d f = rw (sym (running_11_left s most_turns allowed a e), e) refl
     go false e true f = rw (sym (running_11_right s most_turns allowed a e f), e, f) refl
     go false e false f = rw (sym (running_0 s most_turns allowed a e f), e, f) refl
-
--- 1 and 2 are sides
-pub left_side : is_side 1 ≡ true
-unfolding is_side
-left_side = refl
-
-pub right_side : is_side 2 ≡ true
-unfolding is_side
-right_side = refl
 
 -- nothing is put
 pub none-put : {out : List ℕ} → Puts [] out 0 0 out

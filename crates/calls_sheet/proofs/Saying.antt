@@ -1,60 +1,26 @@
--- From what is put to the statement of a line, and what a reading says of the record.
+-- From what is put to the statement of a line.
 use Prim.Native.Nat.{ℕ, ◌≤◌}
 use mathlib.Core.Path.{◌≡◌, refl, sym, ap, ◌∙◌}
 use mathlib.Core.Logic.{◌≢◌}
 use mathlib.Core.Bool.{Bool, true, false, cond}
 use mathlib.Core.List.{List, [], ◌++◌}
 use native.Mathlib.Omega.{arith}
-use borrow.Author.Tests.{eq-eqb, ne_eqb, eqb-true, eqb-false}
+use borrow.Author.Tests.{eq-eqb, ne_eqb}
 use lib.Dec.{eqb}
 use lib.ListN.{length, drop, length-append}
-use Rattle.record_fields.specs.Fields.{hold_of, size_of, most_turns}
+use Rattle.record_fields.specs.Fields.{most_turns}
 use Rattle.record_fields.specs.Refusals.{refusal}
-use Rattle.record_fields.specs.Refused.{NumberAndRow, accepted}
+use Rattle.record_fields.specs.Refused.{NumberAndRow}
 use Rattle.record_fields.specs.Told.{told_of}
 use Rattle.record_fields.proofs.Stores.{sets_front}
-use Rattle.record.specs.Calls.{Heading}
-use Rattle.record.specs.Calls.{Reading}
-use Rattle.record.specs.Calls.{Accepted, Refused}
-use Rattle.record.specs.Calls.{Reads, reading_of, reading_refusal}
 use Rattle.calls_show.specs.InThousandths as in_thousandths
 use Rattle.calls_turns.specs.Refusals.{run_refusal}
 use Rattle.calls_turns.proofs.Turns.{running_good}
 use Rattle.work_text.specs.Puts.{Puts}
 use Rattle.calls_sheet.specs.Lines.{refused_line}
 use Rattle.calls_sheet.specs.Sheet.{ThirdNumber, is_run, after_run, line_of_record, line_text, after_line}
-use Rattle.calls_sheet.specs.Shown.{HeadingOf, SaysRun, SaysOf}
+use Rattle.calls_sheet.specs.Shown.{SaysRun, SaysOf}
 use Rattle.calls_sheet.specs.Calls.{SaysLine}
-
--- ---- what a reading says
-
-module _ {s : List ℕ} {reading : Reading} (p : Reads s reading) where
-  pub read_heading : {h : Heading} → reading ≡ Accepted h → HeadingOf s h.hold h.n
-  unfolding reading_of
-  read_heading {h} e = go (accepted (refusal s)) refl
-    where
-      go : (b : Bool) → accepted (refusal s) ≡ b → HeadingOf s h.hold h.n
-      go true t =
-          let same : Accepted (record { hold = hold_of s; n = size_of s }) ≡ Accepted h = sym (p.answers ∙ rw t refl) ∙ e in
-          let heading : ◌≡◌ {A = Heading} (record { hold = hold_of s; n = size_of s }) h = cc in
-          record {
-            accepted = eqb-true (refusal s) 0 t;
-            holds = sym (ap (λ (x : Heading). x.hold) heading);
-            sized = sym (ap (λ (x : Heading). x.n) heading);
-          }
-      go false t =
-          let same : Refused (told_of s (refusal s)) ≡ Accepted h = sym (p.answers ∙ rw t refl) ∙ e in
-          absurd (let z : ◌≡◌ {A = ℕ} 0 1 = cc in omega arith)
-
-  pub read_refused : {r : NumberAndRow} → reading ≡ Refused r → (refusal s ≢ 0) × (reading_refusal reading ≡ told_of s (refusal s))
-  unfolding reading_of
-  read_refused {r} e = go (accepted (refusal s)) refl
-    where
-      go : (b : Bool) → accepted (refusal s) ≡ b → (refusal s ≢ 0) × (reading_refusal reading ≡ told_of s (refusal s))
-      go true t =
-          let same : Accepted (record { hold = hold_of s; n = size_of s }) ≡ Refused r = sym (p.answers ∙ rw t refl) ∙ e in
-          absurd (let z : ◌≡◌ {A = ℕ} 0 1 = cc in omega arith)
-      go false t = (eqb-false (refusal s) 0 t, ap reading_refusal p.answers ∙ rw t refl)
 
 -- ---- lines
 

@@ -1,30 +1,20 @@
 // The sheet of any bytes, asked for line by line.
 ghost use Rattle.std.specs.Prelude.{cond, [], ◌≡◌, ◌≤◌, eqb, length};
-ghost use Rattle.record.specs.Calls.{reading_refusal};
 ghost use Rattle.calls_sheet.specs.Calls.{SaysLine};
 ghost use Rattle.calls_sheet.specs.Lines.{refused_line};
+ghost use Rattle.record_fields.specs.Refused.{number_of, refused_row, row_of};
 ghost use Rattle.work_text.specs.Puts.{Puts};
 
 use crate::lines::refused_line;
 use crate::running::run_line;
 use crate::showing::shown_line;
-use record::reading::Reading;
-use record_fields::refusal::{Refusal, refused};
-
-// The refusal that a reading found, with number 0 where it found none.
-fn refusal_in(reading: Reading) -> Refusal
-    ensures { result ≡ reading_refusal reading }
-{
-    match reading {
-        Reading::Accepted(_header) => refused(0),
-        Reading::Refused(refusal) => refusal,
-    }
-}
+use record_fields::refusal::Refusal;
 
 // The only line of bytes that are refused is the first.
 fn refused_at(refusal: Refusal, k: usize, out: &mut [u8]) -> usize
     requires { 64 ≤ length out.old }
-    ensures { Puts (cond (eqb k 1) (refused_line refusal) []) out.old 0 result out.new }
+    ensures { Puts (cond (eqb k 1) (refused_line (refused_row (number_of refusal) (row_of refusal))) [])
+        out.old 0 result out.new }
 {
     if k == 1 {
         return refused_line(refusal, out);
@@ -38,9 +28,9 @@ fn refused_at(refusal: Refusal, k: usize, out: &mut [u8]) -> usize
 pub fn line(s: &mut [u8], k: usize, out: &mut [u8; 1942]) -> usize
     ensures { SaysLine s.old k out.old result out.new s.new }
 {
-    let reading = record::read(s);
-    let Reading::Accepted(header) = reading else {
-        return refused_at(refusal_in(reading), k, out);
+    let header = match record::read(s) {
+        Ok(header) => header,
+        Err(refusal) => return refused_at(refusal, k, out),
     };
     if k == 6 {
         return run_line(s, out);

@@ -1,20 +1,23 @@
 // The lines of a sheet, each put into the first places of lent memory, and how many bytes it has.
-ghost use Rattle.std.specs.Prelude.{◌≤◌, eqb, length, ◌≡◌};
+ghost use Rattle.std.specs.Prelude.{◌≤◌, length, ◌≡◌};
 ghost use Rattle.calls_sheet.specs.Lines.{count_line, ending, entangled_line, heading_line, order_line};
 ghost use Rattle.calls_sheet.specs.Lines.{refused_line, turns_line};
+ghost use Rattle.record_fields.specs.Holds.{letter_of};
+ghost use Rattle.record_fields.specs.Refused.{number_of, refused_row, row_of};
 ghost use Rattle.work_text.specs.Puts.{Puts};
 
-use calls_turns::answers::Ran;
+use record::Header;
 use record_fields::refusal::Refusal;
 use work_text::{put, put_entries_line, put_line, put_next};
+use work_turns::Taken;
 
 // Mark, version, hold, n.
-pub fn heading_line(hold: u8, n: u16, out: &mut [u8]) -> usize
+pub fn heading_line(header: Header, out: &mut [u8]) -> usize
     requires { 64 ≤ length out.old }
-    ensures { Puts (heading_line hold n) out.old 0 result out.new }
+    ensures { Puts (heading_line (letter_of header.hold) header.n) out.old 0 result out.new }
 {
-    let first = [b'T', b'G', b'P', b' ', b'1', b' ', hold];
-    let numbers = [n as u32];
+    let first = [b'T', b'G', b'P', b' ', b'1', b' ', header.hold.letter()];
+    let numbers = [u32::from(header.n)];
     put_line(&first, &numbers, out, 0)
 }
 
@@ -46,31 +49,31 @@ pub fn entangled_line(d: u32, w: u32, k: u32, out: &mut [u8]) -> usize
 }
 
 // `S` for a run that settled, `U` for one that did not.
-fn ending_letter(settled: u32) -> u8
-    ensures { result ≡ ending (eqb settled 1) }
+fn ending_letter(settled: bool) -> u8
+    ensures { result ≡ ending settled }
 {
-    if settled == 1 { b'S' } else { b'U' }
+    if settled { b'S' } else { b'U' }
 }
 
 // Turns, `S` settled or `U` not, last count.
-pub fn turns_line(ran: Ran, out: &mut [u8]) -> usize
+pub fn turns_line(taken: Taken, out: &mut [u8]) -> usize
     requires { 64 ≤ length out.old }
-    ensures { Puts (turns_line ran.turns (eqb ran.settled 1) ran.last) out.old 0 result out.new }
+    ensures { Puts (turns_line taken.turns taken.settled taken.last) out.old 0 result out.new }
 {
     let begun = put(b"T", out, 0);
-    let told = put_next(ran.turns, out, begun);
-    let first = [b' ', ending_letter(ran.settled)];
-    let numbers = [ran.last];
+    let told = put_next(taken.turns, out, begun);
+    let first = [b' ', ending_letter(taken.settled)];
+    let numbers = [taken.last];
     put_line(&first, &numbers, out, told)
 }
 
 // `REFUSED`, a refusal's number, and the bad row of 7 and 8.
 pub fn refused_line(refusal: Refusal, out: &mut [u8]) -> usize
     requires { 64 ≤ length out.old }
-    ensures { Puts (refused_line refusal) out.old 0 result out.new }
+    ensures { Puts (refused_line (refused_row (number_of refusal) (row_of refusal))) out.old 0 result out.new }
 {
-    let number = refusal.number as u32;
-    let row = refusal.row as u32;
+    let number = u32::from(refusal.number());
+    let row = u32::from(refusal.row());
     if row == 0 {
         let numbers = [number];
         return put_line(b"REFUSED", &numbers, out, 0);

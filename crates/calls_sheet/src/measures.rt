@@ -5,17 +5,15 @@ ghost use Rattle.calls_sheet.specs.Sheet.{ThirdNumber};
 ghost use Rattle.calls_sheet.specs.Shown.{SaysEntangled};
 
 use crate::lines::entangled_line;
-use calls_show::answers::{InThousandths, SquaredEntanglement};
 
 // The entanglement in thousandths, 0 for a single leaf.
 fn thousandths(s: &[u8]) -> u32
     ensures { ThirdNumber s.now result }
 {
-    let entangled = calls_show::thousandths(s);
-    match entangled {
-        InThousandths::Ratio(k) => k,
-        InThousandths::NoRatio => 0,
-        InThousandths::Refused(_refusal) => 0,
+    match calls_show::thousandths(s) {
+        Ok(Some(k)) => k,
+        Ok(None) => 0,
+        Err(_refusal) => 0,
     }
 }
 
@@ -25,10 +23,9 @@ pub fn measures_line(s: &[u8], out: &mut [u8]) -> usize
     ensures { SaysEntangled s.now out.old result out.new }
 {
     let k = thousandths(s);
-    let squared = calls_show::squared_entanglement(s);
-    match squared {
-        SquaredEntanglement::Ratio(d, w, _ratio) => entangled_line(d, w, k, out),
-        SquaredEntanglement::NoRatio => entangled_line(0, 0, k, out),
-        SquaredEntanglement::Refused(_refusal) => entangled_line(0, 0, k, out),
+    match calls_show::squared_entanglement(s) {
+        Ok(Some(squared)) => entangled_line(squared.displacement, squared.worst, k, out),
+        Ok(None) => entangled_line(0, 0, k, out),
+        Err(_refusal) => entangled_line(0, 0, k, out),
     }
 }

@@ -10,9 +10,8 @@ pub fn run_line(s: &mut [u8], out: &mut [u8]) -> usize
     requires { 64 ≤ length out.old }
     ensures { SaysRun s.old out.old result out.new s.new }
 {
-    let ran = calls_turns::run(s, MOST_TURNS);
-    if ran.refusal.number != 0 {
-        return refused_line(ran.refusal, out);
+    match calls_turns::run(s, MOST_TURNS) {
+        Ok(taken) => turns_line(taken, out),
+        Err(refusal) => refused_line(refusal, out),
     }
-    turns_line(ran, out)
 }

@@ -1,8 +1,8 @@
 // The lines of an accepted record as it stands.
-ghost use Rattle.std.specs.Prelude.{cond, true, [], ◌≢◌, ◌≡◌, ◌≤◌, length};
+ghost use Rattle.std.specs.Prelude.{cond, [], ◌≢◌, ◌≡◌, ◌≤◌, length};
 ghost use Rattle.record_arrays.specs.Shown.{shown_count, shown_order};
-ghost use Rattle.record_arrays.specs.Sides.{is_side, side_of};
 ghost use Rattle.record_fields.specs.Fields.{size_of};
+ghost use Rattle.record_fields.specs.Holds.{letter_of};
 ghost use Rattle.record_fields.specs.Refusals.{refusal};
 ghost use Rattle.calls_sheet.specs.Lines.{count_line, order_line};
 ghost use Rattle.calls_sheet.specs.Sheet.{is_run};
@@ -11,18 +11,19 @@ ghost use Rattle.work_text.specs.Puts.{Puts};
 
 use crate::lines::{count_line, heading_line, order_line};
 use crate::measures::measures_line;
-use record::reading::Header;
-use record_arrays::is_held;
+use record::Header;
+use record_arrays::side_order;
+use record_fields::hold::Hold;
+use tanglegram::Side;
 
 // A side's letter and its order.
-fn side_line(s: &[u8], n: u16, side: u16, letter: u8, out: &mut [u8]) -> usize
-    requires { (refusal s.now ≡ 0) × (n ≡ size_of s.now) × (is_side side ≡ true) × (1942 ≤ length out.old) }
-    ensures { Puts (order_line letter (shown_order s.now (side_of side))) out.old 0 result out.new }
+fn side_line(s: &[u8], n: u16, side: Side, letter: u8, out: &mut [u8]) -> usize
+    requires { (refusal s.now ≡ 0) × (n ≡ size_of s.now) × (1942 ≤ length out.old) }
+    ensures { Puts (order_line letter (shown_order s.now side)) out.old 0 result out.new }
 {
     let mut order = [0u16; 512];
-    calls_show::order(s, side, &mut order);
-    let most = n as usize;
-    order_line(letter, &order[..most], out)
+    side_order(s, n, side, &mut order);
+    order_line(letter, &order[..n as usize], out)
 }
 
 // The count.
@@ -30,24 +31,23 @@ fn counted_line(s: &[u8], out: &mut [u8]) -> usize
     requires { (refusal s.now ≡ 0) × (64 ≤ length out.old) }
     ensures { Puts (count_line (shown_count s.now)) out.old 0 result out.new }
 {
-    let counted = calls_show::count(s);
-    count_line(counted.count, out)
+    match calls_show::count(s) {
+        Ok(count) => count_line(count, out),
+        Err(_refusal) => 0,
+    }
 }
 
 // Whether neither side is held.
-fn is_free(hold: u8) -> bool
-    ensures { result ≡ neither_held hold }
+fn is_free(hold: Hold) -> bool
+    ensures { result ≡ neither_held (letter_of hold) }
 {
-    if is_held(hold, 1) {
-        return false;
-    }
-    !is_held(hold, 2)
+    !hold.holds(Side::Left) && !hold.holds(Side::Right)
 }
 
 // A side's letter and its order below the line of a run; nothing where there is no run.
-fn side_after(s: &[u8], header: Header, side: u16, letter: u8, out: &mut [u8]) -> usize
-    requires { HeadingOf s.now header.hold header.n × (is_side side ≡ true) × (1942 ≤ length out.old) }
-    ensures { Puts (cond (is_run s.now) (order_line letter (shown_order s.now (side_of side))) [])
+fn side_after(s: &[u8], header: Header, side: Side, letter: u8, out: &mut [u8]) -> usize
+    requires { HeadingOf s.now (letter_of header.hold) header.n × (1942 ≤ length out.old) }
+    ensures { Puts (cond (is_run s.now) (order_line letter (shown_order s.now side)) [])
         out.old 0 result out.new }
 {
     if is_free(header.hold) {
@@ -57,19 +57,18 @@ fn side_after(s: &[u8], header: Header, side: u16, letter: u8, out: &mut [u8]) -
 }
 
 // Line k, which is not 6, of an accepted record with that heading; nothing where it has no such line.
-#[tactic(auto, using(crate::proofs::Asked::left_side, crate::proofs::Asked::right_side))]
 pub fn shown_line(s: &[u8], header: Header, k: usize, out: &mut [u8]) -> usize
-    requires { HeadingOf s.now header.hold header.n × (k ≢ 6) × (1942 ≤ length out.old) }
+    requires { HeadingOf s.now (letter_of header.hold) header.n × (k ≢ 6) × (1942 ≤ length out.old) }
     ensures { SaysOf s.now k out.old result out.new }
 {
     match k {
-        1 => heading_line(header.hold, header.n, out),
-        2 => side_line(s, header.n, 1, b'L', out),
-        3 => side_line(s, header.n, 2, b'R', out),
+        1 => heading_line(header, out),
+        2 => side_line(s, header.n, Side::Left, b'L', out),
+        3 => side_line(s, header.n, Side::Right, b'R', out),
         4 => counted_line(s, out),
         5 => measures_line(s, out),
-        7 => side_after(s, header, 1, b'L', out),
-        8 => side_after(s, header, 2, b'R', out),
+        7 => side_after(s, header, Side::Left, b'L', out),
+        8 => side_after(s, header, Side::Right, b'R', out),
         _ => 0,
     }
 }

@@ -3,12 +3,12 @@ use Prim.Native.Nat.{ℕ, ◌-◌, ◌≤◌, ◌<◌}
 use mathlib.Core.Path.{◌≡◌, refl, sym, ap, ◌∙◌}
 use mathlib.Core.Logic.{◌≢◌}
 use mathlib.Core.Bool.{Bool, true, false, not}
-use mathlib.Core.List.{List, ◌++◌}
+use mathlib.Core.List.{List}
 use native.Mathlib.Omega.{arith}
-use borrow.Author.Tests.{lt-ltb, le-ltb, ltb-false}
+use borrow.Author.Tests.{lt-ltb, le-ltb, ltb-false, ne_eqb}
 use lib.Dec.{leb, ltb, lit≤}
-use lib.ListN.{length, take}
-use lib.Seq.{sets, take_at}
+use lib.ListN.{length}
+use lib.Seq.{sets}
 use Rattle.tanglegram.specs.Lists.{bit}
 use Rattle.tanglegram.specs.Order.{against_pins}
 use Rattle.tanglegram.specs.declared.side.Side.{Side}
@@ -22,7 +22,7 @@ use Rattle.record_fields.specs.Told.{told_of, OwnRow}
 use Rattle.record_fields.specs.Meaning.{table_of, layouts_of}
 use Rattle.record_fields.proofs.Acceptance.{else_first, none_both}
 use Rattle.record_fields.proofs.Heading.{none_first, not_no}
-use Rattle.record_fields.proofs.Refused.{lent-accepted, refused-some, refuses}
+use Rattle.record_fields.proofs.Refused.{lent-refused, lent-accepted, refuses}
 use Rattle.record_fields.proofs.Stores.{sets_front}
 use Rattle.record_fields.proofs.Told.{told_none, told-alone, alone_when, alone_0, own_when, own_then}
 use Rattle.record.specs.Calls.{Refused, Reads}
@@ -32,7 +32,7 @@ use Rattle.record_orders.specs.Proposed.{is_order}
 use Rattle.record_orders.proofs.Proposals.{length-shown}
 use Rattle.calls_take_in.specs.Refusals.{shown_on, take_in_refusal}
 use Rattle.calls_take_in.specs.Calls.{taken_bytes, TakesIn}
-use Rattle.calls_take_in.specs.Steps.{OrderTold, TakingTold, Weighed}
+use Rattle.calls_take_in.specs.Steps.{OrderTold, Weighed}
 
 -- What the call starts from, where nothing is refused.
 pub record Good (s : List ℕ) (side : ℕ) (xs out : List ℕ) : Type 0 where
@@ -87,11 +87,6 @@ module _ (s : List ℕ) (side : ℕ) (xs out : List ℕ) where
   abbrev Tells : NumberAndRow → Type 0
   Tells r = r ≡ told_of s (take_in_refusal s side xs out)
 
-  -- where anything is refused, nothing is said of the bytes
-  pub taking-refused : (r : Refusal) {lay : List ℕ} → Tells (refused_row (number_of r) (row_of r)) →
-      TakingTold s side xs out (refused_row (number_of r) (row_of r)) lay
-  taking-refused r e = record { told = e; gives = λ z. absurd (refused-some r z) }
-
   pub told-side : is_side side ≡ false → Tells (refused 13)
   told-side h = told-alone (parts s) (record { alone = refl }) ∙ ap (told_of s) (taking_13 h)
 
@@ -118,22 +113,23 @@ module _ (s : List ℕ) (side : ℕ) (xs out : List ℕ) where
         none-told : 0 ≡ order-number
         none-told = sym none ∙ ap (λ (a : NumberAndRow). a.number) here
 
-        pub told-room : length out < n - 1 → Tells (refused 14)
+        -- the bytes give the order, one for each row
+        pub laid : lay ≡ taken_bytes s (side_of side) xs
+        laid = rw (← good.1, ← g.sized.says) at (told.gives none)
+
+        lay_long : length lay ≡ size_of s - 1
+        lay_long = ap length laid ∙ length_taken s (side_of side) xs
+
+        pub told-room : length out < length lay → Tells (refused 14)
         told-room h =
-            let short = lt-ltb (length out) (size_of s - 1) (omega (arith, g.sized.says)) in
+            let short = lt-ltb (length out) (size_of s - 1) (omega (arith, lay_long)) in
             told-alone (parts s) (record { alone = refl })
             ∙ ap (told_of s) (rw (taking_then good.0 g.accepted, short) (told_then one against 14 none-told))
 
-        pub taking_0 : n - 1 ≤ length out → take_in_refusal s side xs out ≡ 0
+        pub taking_0 : length lay ≤ length out → take_in_refusal s side xs out ≡ 0
         taking_0 h =
-            let long = le-ltb (length out) (size_of s - 1) (omega (arith, g.sized.says)) in
+            let long = le-ltb (length out) (size_of s - 1) (omega (arith, lay_long)) in
             rw (taking_then good.0 g.accepted, long) (sym (told_then one against 0 none-told))
-
-        -- the bytes, in the first places of what was lent for them
-        pub taken-first : (rest : List ℕ) → take (size_of s - 1) (lay ++ rest) ≡ taken_bytes s (side_of side) xs
-        taken-first rest =
-            let made : lay ≡ taken_bytes s (side_of side) xs = rw (← good.1, ← g.sized.says) at (told.gives none) in
-            rw made (take_at (taken_bytes s (side_of side) xs) rest (size_of s - 1) (length_taken s (side_of side) xs))
 
   -- where nothing is refused
   pub taking_good : take_in_refusal s side xs out ≡ 0 → Good s side xs out
@@ -163,6 +159,13 @@ module _ (s : List ℕ) (side : ℕ) (xs out : List ℕ) where
       (alone_when (ltb (length out) (size_of s - 1)) 14 refl alone_0)))))
 
   -- ---- the statement
+
+  pub take_in_refused : (r : Refusal) → Tells (refused_row (number_of r) (row_of r)) →
+      TakesIn s side xs out (record { refusal = refused_row (number_of r) (row_of r); count = 0; least = 0 }) out
+  take_in_refused r e = record {
+    answers = rw (← e, ne_eqb _ 0 (refuses r e)) refl;
+    afterwards = lent-refused (take_in_refusal s side xs out) (taken_bytes s (side_of side) xs) out (refuses r e);
+  }
 
   pub take_in_accepted : {bytes out' : List ℕ} {before after least : ℕ} {side' : Side} → take_in_refusal s side xs out ≡ 0 →
       side_of side ≡ side' → bytes ≡ taken_bytes s (side_of side) xs → out' ≡ sets out 0 bytes → Weighed s side' bytes before after →

@@ -1,12 +1,11 @@
 // Taking in an order for a side: what is refused, the layout bytes that give it, and what they count. The record is
 // only read, so what is held plays no part.
-ghost use Rattle.std.specs.Prelude.{◌≡◌, ◌+◌, ◌-◌, IfOk, length, replicate};
-ghost use Rattle.record_fields.specs.Fields.{size_of};
+ghost use Rattle.std.specs.Prelude.{◌≡◌, ◌+◌, ◌-◌, length, replicate};
 ghost use Rattle.record_fields.specs.Refused.{told};
-ghost use Rattle.record_arrays.specs.Sides.{RecordOver, side_of};
+ghost use Rattle.record_arrays.specs.Sides.{RecordOver};
 ghost use Rattle.calls_take_in.specs.Answers.{taken_in};
 ghost use Rattle.calls_take_in.specs.Calls.{TakesIn};
-ghost use Rattle.calls_take_in.specs.Steps.{OrderTold, TakingTold, Weighed};
+ghost use Rattle.calls_take_in.specs.Steps.{OrderTold, Weighed};
 
 use crate::answers::Weight;
 use record_arrays::{fill_layout, layout_at};
@@ -35,30 +34,6 @@ fn lay_order(s: &[u8], n: u16, side: Side, xs: &[u16], lay: &mut [u8]) -> Result
     Ok(())
 }
 
-// Writes the layout bytes that give the order to the first n - 1 places of `lay`, zeros before, and answers the side and
-// n; or the refusal of taking it in.
-fn taking(
-    s: &[u8],
-    side: u16,
-    xs: &[u16],
-    out: &[u8],
-    lay: &mut [u8],
-) -> Result<(Side, u16), Refusal>
-    requires { lay.old ≡ replicate 512 0 }
-    ensures tells { TakingTold s.now side xs.now out.now (told result) lay.new }
-    ensures says { IfOk result (λ r. (side_of side ≡ r.0) × (r.1 ≡ size_of s.now)) }
-{
-    let side = Side::try_from(side)?;
-    let header = record::read(s)?;
-    let n = header.n;
-    let m = n as usize - 1;
-    lay_order(s, n, side, xs, &mut lay[..m])?;
-    if out.len() < m {
-        return Err(Refusal::Room);
-    }
-    Ok((side, n))
-}
-
 // The count of an accepted record with other layout bytes on a side, and the count that freeing that side would leave;
 // the other side stands as it is. The bytes become those that freeing leaves.
 fn weigh(s: &[u8], n: u16, side: Side, lay: &mut [u8]) -> Sums
@@ -80,9 +55,15 @@ fn weigh(s: &[u8], n: u16, side: Side, lay: &mut [u8]) -> Sums
 pub fn take_in(s: &[u8], side: u16, xs: &[u16], out: &mut [u8]) -> Result<Weight, Refusal>
     ensures { TakesIn s.now side xs.now out.old (taken_in result) out.new }
 {
+    let side = Side::try_from(side)?;
+    let header = record::read(s)?;
+    let n = header.n;
     let mut lay = [0u8; 512];
-    let (side, n) = taking(s, side, xs, out, &mut lay)?;
     let lay = &mut lay[..n as usize - 1];
+    lay_order(s, n, side, xs, lay)?;
+    if out.len() < lay.len() {
+        return Err(Refusal::Room);
+    }
     bytes_in(lay, out, 0);
     let turn = weigh(s, n, side, lay);
     Ok(Weight {

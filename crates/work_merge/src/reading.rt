@@ -21,7 +21,8 @@ pub fn any_names_none(table: &[i32], n: u16) -> bool
     false
 }
 
-// A table each of whose entries names a leaf or an earlier row: the objects that they name.
+// A table each of whose entries names a leaf or an earlier row: the objects that they name, as the test of the tree rule
+// takes them.
 #[derive(Drop)]
 struct Named<'a> {
     table: &'a [i32],

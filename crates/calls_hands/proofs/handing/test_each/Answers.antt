@@ -1,7 +1,5 @@
-use Rattle.std.proofs.Common.{arith, refl, ap, ◌≤◌, ◌∙◌}
+use Rattle.std.proofs.Common.{refl, ap, ◌∙◌}
 use Rattle.std.proofs.lemmas.Result.{err_from_is_err_and}
-use Rattle.record_fields.specs.Fields.{size_of}
-use Rattle.record_fields.specs.Refusals.{RecordOver}
 use Rattle.record_fields.specs.Refused.{refused}
 use Rattle.record_fields.proofs.Refused.{refuses}
 use Rattle.calls_hands.proofs.HandLists.{none_more, first_bad, none_bad, same-number}

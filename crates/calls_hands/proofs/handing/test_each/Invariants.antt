@@ -1,5 +1,4 @@
 -- `test_each`: no entry before the present one is bad.
-use Rattle.std.proofs.Common.{length, ◌≤◌}
 use Rattle.calls_hands.proofs.HandLists.{NoneBefore}
 use Rattle.calls_hands.proofs.handing.test_each.Given as goal
 

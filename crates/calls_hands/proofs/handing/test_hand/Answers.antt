@@ -1,8 +1,7 @@
 -- `test_hand`: each early return is one of 13, 15, 11 and 22, with what the tests before it left.
-use Rattle.std.proofs.Common.{ap, false, sym, true, ◌∙◌, ◌≡◌}
+use Rattle.std.proofs.Common.{ap, false, sym, ◌∙◌, ◌≡◌}
 use Rattle.std.proofs.lemmas.Result.{err_from_is_err_and}
 use borrow.Author.Tests.{not-true, not-false}
-use Rattle.tanglegram.specs.Order.{may_change}
 use Rattle.record_fields.specs.Fields.{hold_of, size_of}
 use Rattle.record_fields.specs.Refused.{refused}
 use Rattle.record_arrays.specs.Sides.{side_of, holds}

@@ -1,5 +1,5 @@
--- `pin`: the side is tested, then the record, then the row, and a refused call keeps every byte; otherwise the row's byte with the pin asked
--- for is put in its place.
+-- `pin`: the side is tested, then the record, then the row, and a refused call keeps every byte; otherwise the row's byte with the pin
+-- asked for is put in its place.
 use Rattle.std.proofs.lemmas.Result.{err_from_is_err_and}
 use Rattle.calls_pins.proofs.Pinned.{pin-no_side, pin-no_record, pin-no_row, row-found, pin-put}
 use Rattle.calls_pins.proofs.pinning.pin.Goals as goal

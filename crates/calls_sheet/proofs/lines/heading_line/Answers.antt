@@ -6,5 +6,4 @@ use Rattle.calls_sheet.proofs.lines.heading_line.Goals as goal
 
 pub put_line-requires : goal.put_line-requires
 put_line-requires c =
-    let a = c.args in
-    omega (arith, line-most (ascii "TGP 1 " ++ (a.hold ∷ [])) (a.n ∷ []) (omega arith, tt))
+    omega (arith, line-most (ascii "TGP 1 " ++ (c.letter.result ∷ [])) (c.from.result ∷ []) (omega arith, tt))

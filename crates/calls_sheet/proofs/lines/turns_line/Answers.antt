@@ -6,14 +6,14 @@ use Rattle.calls_sheet.proofs.lines.turns_line.Goals as goal
 
 pub put_next-told-requires : goal.put_next-told-requires
 put_next-told-requires c =
-    let ran = c.args.ran in
-    omega (arith, c.put-begun.ensures.ends, put-long c.put-begun.ensures, next-most ran.turns (omega arith))
+    let taken = c.args.taken in
+    omega (arith, c.put-begun.ensures.ends, put-long c.put-begun.ensures, next-most taken.turns (omega arith))
 
 pub put_line-requires : goal.put_line-requires
 put_line-requires c =
     let told = c.put_next-told.ensures in
     let begun = c.put-begun.ensures in
-    let turns = next-most c.args.ran.turns (omega arith) in
+    let turns = next-most c.args.taken.turns (omega arith) in
     line-room _ _ _ _ (omega arith) (omega (arith, told.ends, put-long told, begun.ends, put-long begun, turns))
 
 pub returns : goal.returns

@@ -1,61 +1,43 @@
--- `take_in`: a refused call writes nothing; otherwise the bytes that give the order stand in the buffer's first places, and are weighed.
-use Rattle.std.proofs.Common.{ap, arith, length, length-take, length-take-le, refl, sym, take, ◌-◌, ◌∙◌, ◌≡◌, ◌≤◌}
-use Rattle.record_fields.specs.Refused.{NumberAndRow}
-use Rattle.record_arrays.specs.Sides.{side_of, RecordOver}
-use Rattle.record_arrays.proofs.AsItStands.{over_n}
-use Rattle.calls_take_in.specs.Refusals.{take_in_refusal}
-use Rattle.calls_take_in.specs.Calls.{taken_bytes}
-use Rattle.calls_take_in.proofs.Taken.{Good, taking_good, length_taken, take_in_accepted}
-use Rattle.calls_take_in.proofs.taking_in.take_in.Goals.{In_ok-side}
+-- `take_in` answers by the first test of `take_in_refusal` that is met and writes nothing; or the bytes that give the order stand in the
+-- buffer's first places, and are weighed.
+use Rattle.std.proofs.Common.{arith, refl, ◌-◌}
+use Rattle.std.proofs.lemmas.Result.{err_from_is_err_and}
+use Rattle.record_fields.specs.declared.refusal.Refusal.TheVariants as refusal
+use Rattle.calls_take_in.proofs.Steps.{zeros_first}
+use Rattle.calls_take_in.proofs.Taken.{told-side, told-record, told-order, told-room, taking_0, laid, take_in_refused, take_in_accepted}
 use Rattle.calls_take_in.proofs.taking_in.take_in.Goals as goal
 
-none : (c : In_ok-side) → let a = c.args in take_in_refusal a.s.now a.side a.xs.now a.out.now ≡ 0
-none c = sym (ap (λ (r : NumberAndRow). r.number) c.in_ok-side.ensures.tells.told)
+pub returns-in_err-side : goal.returns-in_err-side
+returns-in_err-side c =
+    let p = err_from_is_err_and c.from_residual.result c.from_residual.ensures.1 in
+    rw (p.1, p.2) (take_in_refused _ _ _ _ refusal.Side (told-side _ _ _ _ c.in_err-side.ensures))
 
-good : (c : In_ok-side) → let a = c.args in Good a.s.now a.side a.xs.now a.out.now
-good c = taking_good _ _ _ _ (none c)
+pub returns-in_err-header : goal.returns-in_err-header
+returns-in_err-header c =
+    let p = err_from_is_err_and c.from_residual-in_err-header.result c.from_residual-in_err-header.ensures.1 in
+    rw (p.1, p.2) (take_in_refused _ _ _ _ _ (told-record _ _ _ _ c.in_ok-side.ensures _ c.in_err-header.ensures.reads))
 
-over : (c : In_ok-side) → RecordOver c.args.s.now c.in_ok-side.n
-over c = over_n _ (good c).record_good c.in_ok-side.ensures.says.1
+pub lay_order-requires : goal.lay_order-requires
+lay_order-requires c =
+    let g = c.in_ok-header.ensures.over.0 in
+    let most = g.sized.most in
+    (g, zeros_first (c.in_ok-header.header.n - 1) 512 (omega arith))
 
-made : (c : In_ok-side) → let a = c.args in take (c.in_ok-side.n - 1) c.taking.new.lay ≡ taken_bytes a.s.now (side_of a.side) a.xs.now
-made c =
-    let h = c.in_ok-side.ensures in
-    ap (λ n. take (n - 1) c.taking.new.lay) h.says.1 ∙ h.tells.gives refl
+pub returns-in_err-lay_order : goal.returns-in_err-lay_order
+returns-in_err-lay_order c =
+    let p = err_from_is_err_and c.from_residual-in_err-lay_order.result c.from_residual-in_err-lay_order.ensures.1 in
+    let told = told-order _ _ _ _ c.in_ok-side.ensures c.in_ok-header.ensures.over.0 c.in_err-lay_order.ensures _ refl in
+    rw (p.1, p.2) (take_in_refused _ _ _ _ _ told)
 
-room : (c : In_ok-side) → c.in_ok-side.n - 1 ≤ length c.taking.new.lay
-room c =
-    let a = c.args in
-    let n = c.in_ok-side.n in
-    omega (
-      arith,
-      ap length (made c),
-      length_taken a.s.now (side_of a.side) a.xs.now,
-      length-take (n - 1) c.taking.new.lay,
-      c.in_ok-side.ensures.says.1,
-    )
-
-pub slice_bounds-lay-count : goal.slice_bounds-lay-count
-slice_bounds-lay-count c = (over c).sized.some
-
-pub slice_bounds-lay-end : goal.slice_bounds-lay-end
-slice_bounds-lay-end c = room (goal.at.slice_bounds-lay-end c).In_ok-side
-
-pub slice_bounds-lay-length : goal.slice_bounds-lay-length
-slice_bounds-lay-length c = sym (length-take-le _ _ (room (goal.at.slice_bounds-lay-length c).In_ok-side))
-
-pub bytes_in-requires : goal.bytes_in-requires
-bytes_in-requires c =
-    let start = (goal.at.bytes_in-requires c).In_ok-side in
-    omega (arith, (good start).room, c.in_ok-side.ensures.says.1, length-take-le _ _ (room start))
-
-pub weigh-turn-requires : goal.weigh-turn-requires
-weigh-turn-requires c =
-    let start = (goal.at.weigh-turn-requires c).In_ok-side in
-    let some = (over start).sized.some in
-    (over start, omega (arith, length-take-le _ _ (room start)))
+pub returns-then-out-lay : goal.returns-then-out-lay
+returns-then-out-lay c =
+    take_in_refused _ _ _ _ refusal.Room
+    (told-room _ _ _ _ c.in_ok-side.ensures c.in_ok-header.ensures.over.0 c.in_ok-lay_order.ensures refl c.if-out-lay.true)
 
 pub returns : goal.returns
 returns c =
-    let start = (goal.at.returns c).In_ok-side in
-    take_in_accepted _ _ _ _ (none start) c.in_ok-side.ensures.says.0 (made start) c.bytes_in.ensures c.weigh-turn.ensures refl
+    let side = c.in_ok-side.ensures in
+    let g = c.in_ok-header.ensures.over.0 in
+    let told = c.in_ok-lay_order.ensures in
+    take_in_accepted _ _ _ _ (taking_0 _ _ _ _ side g told refl c.if-out-lay.false) side.1 (laid _ _ _ c.args.out.now side g told refl)
+    c.bytes_in.ensures c.weigh-turn.ensures refl
