@@ -8,7 +8,7 @@ ghost use Rattle.work_text.specs.Puts.{Puts};
 
 use record::Header;
 use record_fields::refusal::Refusal;
-use work_text::{put, put_entries_line, put_line, put_next};
+use work_text::{put, put_line, put_next};
 use work_turns::Taken;
 
 // Mark, version, hold, n.
@@ -27,7 +27,7 @@ pub fn order_line(letter: u8, order: &[u16], out: &mut [u8]) -> usize
     ensures { Puts (order_line letter order.now) out.old 0 result out.new }
 {
     let first = [letter];
-    put_entries_line(&first, order, out, 0)
+    put_line(&first, order, out, 0)
 }
 
 // The count.
