@@ -10,7 +10,7 @@ use Rattle.record_fields.specs.Fields.{hold_of, size_of, parts, packed}
 use Rattle.record_fields.specs.Refusals.{refusal, set_hold_refusal}
 use Rattle.record_fields.proofs.Refused.{lent-refused, zero-refused}
 use Rattle.record.specs.Calls.{Reading}
-use Rattle.record.specs.declared.reading.Reading.TheVariants as reading
+use Rattle.record.specs.Calls as reading
 use Rattle.record.specs.Calls.{reading_refusal, hold_in, size_in}
 use Rattle.record_unpacking.specs.Refusals.{unpack_refusal}
 use Rattle.record_packing.specs.Refusals.{pack_refusal}

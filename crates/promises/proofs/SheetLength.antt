@@ -41,7 +41,6 @@ use Rattle.calls_turns.proofs.Turns.{run-own}
 use Rattle.calls_turns.specs.Calls.{ran_to}
 use Rattle.calls_sheet.specs.Lines.{heading_line, count_line, entangled_line, ending, turns_line, refused_line, row_told}
 use Rattle.calls_sheet.specs.Sheet.{ThirdNumber, is_run, after_run, left_line, right_line, as_it_stands, of_the_run, sheet_text}
-use Rattle.calls_sheet.proofs.Asked.{left_side, right_side}
 use Rattle.calls_sheet.proofs.Room.{line-most}
 use Rattle.calls_sheet.proofs.Shown.{order_fits}
 use Rattle.promises.proofs.RowTold.{row_told as rows_told}
@@ -73,10 +72,10 @@ module _ (s : List ℕ) (a : refusal s ≡ 0) where
       )
 
   left-most : length (left_line s) ≤ 1942
-  left-most = order_fits s a 1 left_side 76
+  left-most = order_fits s a left 76
 
   right-most : length (right_line s) ≤ 1942
-  right-most = order_fits s a 2 right_side 82
+  right-most = order_fits s a right 82
 
   -- any count of the record's trees
   count_most : (at : Layouts) → crossings (table_of s) at ≤ 130816
