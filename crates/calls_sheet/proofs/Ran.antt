@@ -36,7 +36,8 @@ module _ (s : List ℕ) {ran : Ran} {s' out out' : List ℕ} {r : ℕ} (p : Runs
         leaves = p.afterwards ∙ rw not refl;
       }
 
-  pub run_made : (settled : Bool) → ran.refusal.number ≡ 0 → ran.settled ≡ bit settled → Puts (turns_line ran.turns settled ran.last) out 0 r out' →
+  pub run_made : (settled : Bool) → ran.refusal.number ≡ 0 → ran.settled ≡ bit settled →
+      Puts (turns_line ran.turns settled ran.last) out 0 r out' →
       SaysRun s out r out' s'
   unfolding after_run
   run_made settled h t q =

@@ -14,6 +14,7 @@ use record_fields::refusal::Refusal;
 use tanglegram::Side;
 
 // The order of a side of any bytes, into a buffer's first places; or the refusal, and the buffer as it was.
+// `Orders` speaks of any number for the side, and tells 13 of one that is none, so it is no `Side` yet.
 pub fn order(s: &[u8], side: u16, out: &mut [u16]) -> Result<(), Refusal>
     ensures { Orders s.now side out.old (told result) out.new }
 {
@@ -37,7 +38,7 @@ pub fn count(s: &[u8]) -> Result<u32, Refusal>
     Ok(record_seen(s, header.n))
 }
 
-// The same, pair by pair.
+// The same, pair by pair. One function over both would be no plainer: each is a test and a count.
 pub fn pairs(s: &[u8]) -> Result<u32, Refusal>
     ensures { Counts s.now (counted result) }
 {

@@ -163,7 +163,8 @@ module _ (s : List ℕ) (allowance : ℕ) where
               go false l = running_11_right good a l r
 
       pub run-done : {h f l t w : ℕ} {s' : List ℕ} → h ≡ hold_of s → holds h left ≡ false → holds h right ≡ false →
-          RecordRan s allowance f l t w s' → Runs s allowance (record { refusal = refused 0; first = f; last = l; turns = t; settled = w }) s'
+          RecordRan s allowance f l t w s' →
+          Runs s allowance (record { refusal = refused 0; first = f; last = l; turns = t; settled = w }) s'
       run-done e p q done = let z : run_refusal s allowance ≡ 0 = sym (running_0 good a (rw e at p) (rw e at q)) in record {
         answers = rw (told_none (parts s) z, z, done.first_count, done.last_count, done.taken, done.ended) refl;
         afterwards = done.afterwards ∙ rw z refl;

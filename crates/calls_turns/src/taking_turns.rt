@@ -11,7 +11,7 @@ use work_freeing::Sums;
 use work_turns::Taken;
 
 // Frees a side of any bytes: the counts before and after, and the layout bytes of that side; or the refusal, and no
-// byte.
+// byte. `Frees` speaks of any number for the side, and tells 13 of one that is none, so it is no `Side` yet.
 pub fn free(s: &mut [u8], side: u16) -> Result<Sums, Refusal>
     ensures { Frees s.old side (freed result) s.new }
 {

@@ -33,7 +33,11 @@ fn ran(stdout: Stdout, answered: Result<Taken, Refusal>, s: &[u8]) -> io::Result
     match answered {
         Ok(taken) => {
             let settled = u32::from(taken.settled);
-            answer(stdout, None, &[taken.first, taken.last, taken.turns, settled])?
+            answer(
+                stdout,
+                None,
+                &[taken.first, taken.last, taken.turns, settled],
+            )?
         }
         Err(refusal) => answer(stdout, Some(refusal), &[0; 4])?,
     }

@@ -21,4 +21,5 @@ returns-then-out-n c = order-no-room _ _ _ c.in_ok-side.ensures.0 _ c.in_ok-head
 pub returns : goal.returns
 returns c =
     let side = c.in_ok-side.ensures in
-    order-made _ _ _ side.0 _ c.in_ok-header.ensures.over.0 _ _ _ c.if-out-n.false side.1 c.side_order.ensures c.copy_from_slice.ensures.after
+    order-made _ _ _ side.0 _ c.in_ok-header.ensures.over.0 _ _ _ c.if-out-n.false side.1 c.side_order.ensures
+    c.copy_from_slice.ensures.after

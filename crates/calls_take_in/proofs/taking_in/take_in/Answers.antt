@@ -1,9 +1,9 @@
 -- `take_in` answers by the first test of `take_in_refusal` that is met and writes nothing; or the bytes that give the order stand in the
 -- buffer's first places, and are weighed.
 use Rattle.std.proofs.Common.{arith, refl, ◌-◌}
+use Rattle.std.proofs.lemmas.List.{take-replicate}
 use Rattle.std.proofs.lemmas.Result.{err_from_is_err_and}
 use Rattle.record_fields.specs.declared.refusal.Refusal.TheVariants as refusal
-use Rattle.calls_take_in.proofs.Steps.{zeros_first}
 use Rattle.calls_take_in.proofs.Taken.{told-side, told-record, told-order, told-room, taking_0, laid, take_in_refused, take_in_accepted}
 use Rattle.calls_take_in.proofs.taking_in.take_in.Goals as goal
 
@@ -21,7 +21,7 @@ pub lay_order-requires : goal.lay_order-requires
 lay_order-requires c =
     let g = c.in_ok-header.ensures.over.0 in
     let most = g.sized.most in
-    (g, zeros_first (c.in_ok-header.header.n - 1) 512 (omega arith))
+    (g, take-replicate (c.in_ok-header.header.n - 1) 512 0 (omega arith))
 
 pub returns-in_err-lay_order : goal.returns-in_err-lay_order
 returns-in_err-lay_order c =
