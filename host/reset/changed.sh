@@ -14,9 +14,10 @@ module=target/staticlib/libtangle.a.bc
 [ "${1:-}" = made ] || archive tangle
 module_text "$module" "$out/unchanged.ll"
 
-# The other side's first layout byte turned over and back. A record is lent as a pointer, %a0, and its length, %a1.
-turn_and_back='define internal void @turn_and_back(ptr %s, i16 %n, i16 %side) noinline {
-  %at = call i64 @"record_arrays::places::layout_at"(i16 %n, i16 %side)
+# The other side's first layout byte turned over and back. A record is lent as a pointer, %a0, and its length, %a1; a side
+# is 0, the left, or 1.
+turn_and_back='define internal void @turn_and_back(ptr %s, i16 %n, i8 %side) noinline {
+  %at = call i64 @"record_arrays::places::layout_at"(i16 %n, i8 %side)
   %p = getelementptr i8, ptr %s, i64 %at
   %x = load volatile i8, ptr %p
   %y = xor i8 %x, 1
@@ -25,8 +26,19 @@ turn_and_back='define internal void @turn_and_back(ptr %s, i16 %n, i16 %side) no
   ret void
 }'
 
+# The first byte of a part that is to be copied into, if it has one, written as 7.
+through_7='define internal void @through_7(ptr %p, i64 %n) noinline {
+  %none = icmp eq i64 %n, 0
+  br i1 %none, label %end, label %some
+some:
+  store volatile i8 7, ptr %p, align 1
+  br label %end
+end:
+  ret void
+}'
+
 # changed FUNCTION PATTERN LINES: standard input with these lines before the last line of that function that has the
-# pattern; POINTER in them is what that line stores to.
+# pattern; POINTER in them is what that line stores to, PART the pointer and the length that it hands over first.
 changed() {
   name="@\"$1\"(" pattern=$2 lines=$3 awk '
     BEGIN { name = ENVIRON["name"]; pattern = ENVIRON["pattern"]; lines = ENVIRON["lines"] }
@@ -37,6 +49,8 @@ changed() {
       if (!at) { print "changed: nothing to change in " name > "/dev/stderr"; exit 1 }
       if (match(line[at], /ptr %[a-z0-9]+, align/))
         gsub(/POINTER/, substr(line[at], RSTART + 4, RLENGTH - 11), lines)
+      if (match(line[at], /[(]ptr %[a-z0-9]+, i64 %[a-z0-9]+/))
+        gsub(/PART/, substr(line[at], RSTART + 1, RLENGTH - 1), lines)
       for (i = 1; i <= NR; i++) { if (i == at) print lines; print line[i] }
     }'
 }
@@ -48,16 +62,19 @@ with_text() { # NAME
   gcc "${strict[@]}" -std=c11 -static -o "$out/$1" host/reset/stepped.c "$out/$1.o"
 }
 
-changed record_fields::copying::bytes_in '^  store i8 ' '  store volatile i8 7, ptr POINTER, align 1' \
-  < "$out/unchanged.ll" |
-  changed record_arrays::rows::put_row_byte '^  store i8 ' '  store volatile i8 7, ptr POINTER, align 1' |
-  changed record::hold::set_hold '^  store i8 ' '  store volatile i8 0, ptr POINTER, align 1' > "$out/through.ll"
+{
+  changed record_fields::copying::bytes_in '^  call .*copy_from_slice' '  call void @through_7(PART)' \
+    < "$out/unchanged.ll" |
+    changed record_arrays::rows::put_row_byte '^  store i8 %' '  store volatile i8 7, ptr POINTER, align 1' |
+    changed record::hold::set_hold '^  store i8 %' '  store volatile i8 0, ptr POINTER, align 1'
+  echo "$through_7"
+} > "$out/through.ll"
 {
   changed record_arrays::putting_back::put_back '^  ret void' \
-    $'  call void @turn_and_back(ptr %a0, i16 %a2, i16 1)\n  call void @turn_and_back(ptr %a0, i16 %a2, i16 2)' \
+    $'  call void @turn_and_back(ptr %a0, i16 %a2, i8 0)\n  call void @turn_and_back(ptr %a0, i16 %a2, i8 1)' \
     < "$out/unchanged.ll" |
     changed record_arrays::rows::put_row_byte '^  ret void' \
-      $'  %other = sub i16 3, %a3\n  call void @turn_and_back(ptr %a0, i16 %a2, i16 %other)'
+      $'  %other = sub i8 1, %a3\n  call void @turn_and_back(ptr %a0, i16 %a2, i8 %other)'
   echo "$turn_and_back"
 } > "$out/back.ll"
 
