@@ -1,7 +1,7 @@
 -- Numbers in 16 bits: one that is too large becomes 0, and neither is a side or a row.
 use Prim.Native.Nat.{ℕ, ◌-◌, ◌≤◌}
 use mathlib.Core.Path.{◌≡◌, refl}
-use mathlib.Core.Bool.{Bool, true, false, cond, false≢true}
+use mathlib.Core.Bool.{Bool, true, false, cond}
 use mathlib.Core.List.{List, [], ◌∷◌}
 use native.Mathlib.Omega.{arith}
 use borrow.Author.Tests.{ne_eqb, lt-ltb, le-ltb, ltb-true}
@@ -42,17 +42,6 @@ narrow-side x = by (ltb 65535 x) refl
         let g = ltb-true 65535 x e in
         rw (ne_eqb x 1 (omega arith)) refl
     by false e = refl
-
--- a side is not too large
-pub narrow-is_side : (x : ℕ) → is_side x ≡ true → is_side (narrow x) ≡ true
-unfolding is_side
-narrow-is_side x h = by (ltb 65535 x) refl
-  where
-    by : (b : Bool) → ltb 65535 x ≡ b → is_side (cond b 0 x) ≡ true
-    by true e =
-        let g = ltb-true 65535 x e in
-        absurd (false≢true (rw (ne_eqb x 1 (omega arith), ne_eqb x 2 (omega arith)) at h))
-    by false e = h
 
 pub narrow-handed : (s : List ℕ) (h : Hand) → h.row ≤ 65535 →
     relaid s (handed (layouts_of s) (hand (narrow h.side) (narrow h.row) ∷ [])) ≡ relaid s (handed (layouts_of s) (h ∷ []))

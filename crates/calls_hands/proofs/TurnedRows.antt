@@ -2,34 +2,20 @@
 -- what is left to do. The entries are tested on the record as it was found, and stay good while rows are turned over.
 use Prim.Native.Nat.{ℕ, ◌≤◌, ◌<◌}
 use mathlib.Core.Path.{◌≡◌, refl, sym, ap, ◌∙◌, subst}
-use mathlib.Core.Bool.{true, false≢true}
 use mathlib.Core.List.{List, [], ◌∷◌}
 use native.Mathlib.Omega.{arith}
-use Rattle.std.specs.Prelude.{Result, Ok, Err, IsOk}
-use Rattle.tanglegram.specs.declared.side.NoSide.{NoSide}
-use Rattle.tanglegram.specs.declared.side.Side.{Side}
 use Rattle.tanglegram.specs.Order.{flip}
-use Rattle.tanglegram.specs.Sides.{SideRead}
 use Rattle.tanglegram.proofs.Bytes.{flip-small}
 use Rattle.record_fields.specs.Fields.{size_of}
 use Rattle.record_fields.specs.Meaning.{layouts_of, relaid}
 use Rattle.record_fields.proofs.Acceptance.{accepted-sized, none_both}
 use Rattle.record_fields.proofs.Meaning.{relaid-same}
-use Rattle.record_arrays.specs.Sides.{is_side, side_of, RecordOver}
+use Rattle.record_arrays.specs.Sides.{side_of, RecordOver}
 use Rattle.record_arrays.specs.Rows.{row_byte}
 use Rattle.record_arrays.proofs.OneRow.{put-given, put-layouts, put-again}
 use Rattle.calls_hands.specs.Refusals.{Hand, hand_refusal, entries_refusal}
 use Rattle.calls_hands.specs.Calls.{handed}
 use Rattle.calls_hands.proofs.HandLists.{hand-good}
-
--- ---- reading a number that is a side's
-
-pub side-ok : (x : ℕ) (r : Result Side NoSide) → SideRead x r → is_side x ≡ true → IsOk r
-side-ok x (Ok y) read h = refl
-side-ok x (Err e) read h = absurd (false≢true (sym read ∙ h))
-
-pub side-in : (x : ℕ) {y : Side} → SideRead x (Ok y) → side_of x ≡ y
-side-in x read = read.1
 
 -- ---- one entry: its row's byte is put
 
@@ -68,9 +54,6 @@ module _ (n : ℕ) (found : List ℕ) (whole : List Hand) where
     first = none_both (hand_refusal found h) (entries_refusal found hs) (sym (ap (entries_refusal found) e) ∙ t.none_bad)
 
     -- what turning the entry's row over asks
-    pub turning_side : is_side h.side ≡ true
-    turning_side = (hand-good found h first.0).on-side
-
     pub turning_row : (1 ≤ h.row) × (h.row < n)
     turning_row =
         let a = hand-good found h first.0 in

@@ -1,17 +1,17 @@
 // Hand lists. Each entry is a side and a row; all are tested before any row is turned over, so that a refused list
 // changes nothing.
-ghost use Rattle.std.specs.Prelude.{[], ◌∷◌, map, true, ◌≡◌, ◌<◌, ◌≤◌};
+ghost use Rattle.std.specs.Prelude.{[], ◌∷◌, map, ◌≡◌, ◌<◌, ◌≤◌};
 ghost use Rattle.record_fields.specs.Fields.{hold_of};
 ghost use Rattle.record_fields.specs.Holds.{letter_of};
 ghost use Rattle.record_fields.specs.Meaning.{layouts_of, relaid};
 ghost use Rattle.record_fields.specs.Refused.{refused, told};
-ghost use Rattle.record_arrays.specs.Sides.{RecordOver, is_side};
+ghost use Rattle.record_arrays.specs.Sides.{RecordOver};
 ghost use Rattle.calls_hands.specs.Calls.{handed, Hands};
 ghost use Rattle.calls_hands.specs.Refusals.{hand_refusal, entries_refusal, hand, hand_of};
 
 use crate::entries::Entry;
 use record::Header;
-use record_arrays::{is_row, put_row_byte, row_byte};
+use record_arrays::{is_row, put_row_byte, row_byte, side_of};
 use record_fields::fields::MOST_HANDS;
 use record_fields::refusal::Refusal;
 use tanglegram::Side;
@@ -36,14 +36,14 @@ fn test_hand(s: &[u8], header: Header, side: u16, row: u16) -> Result<(), Refusa
     Ok(())
 }
 
-// Turns one row of an accepted record over: one layout byte, and no other byte.
-fn turn_hand(s: &mut [u8], n: u16, side: u16, row: u16)
+// Turns one row of an accepted record over: one layout byte, and no other byte. Any number but 1 means the right side;
+// held sides and pinned rows are for `test_hand`.
+pub fn turn_hand(s: &mut [u8], n: u16, side: u16, row: u16)
     requires record_over { RecordOver s.old n }
-    requires on_side { is_side side ≡ true }
     requires le_row { (1 ≤ row) × (row < n) }
     ensures { s.new ≡ relaid s.old (handed (layouts_of s.old) (hand side row ∷ [])) }
 {
-    let side = Side::try_from(side).unwrap();
+    let side = side_of(side);
     let x = row_byte(s, n, side, row);
     put_row_byte(s, n, side, row, flipped(x));
 }

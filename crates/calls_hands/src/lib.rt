@@ -5,4 +5,4 @@ mod entries;
 mod handing;
 
 pub use entries::Entry;
-pub use handing::{hands, turn_each};
+pub use handing::{hands, turn_each, turn_hand};

@@ -1,7 +1,7 @@
 use Rattle.std.proofs.Common.{sym, ◌∙◌}
 use Rattle.calls_hands.proofs.HandLists.{rest_cons, rest_none}
-use Rattle.calls_hands.proofs.TurnedRows.{turning_start, turning_side, turning_row, row-small, turning_more, turning_end}
-use Rattle.calls_hands.proofs.Narrowed.{narrow-small, narrow-is_side, narrow-handed}
+use Rattle.calls_hands.proofs.TurnedRows.{turning_start, turning_row, row-small, turning_more, turning_end}
+use Rattle.calls_hands.proofs.Narrowed.{narrow-small, narrow-handed}
 use Rattle.calls_hands.proofs.handing.turn_good.Goals as goal
 
 pub loop-entry-init : goal.loop-entry-init
@@ -9,12 +9,6 @@ loop-entry-init g c = turning_start _ _ _ c.requires.record_over c.requires.none
 
 pub turn_hand-requires-clause-record_over : goal.turn_hand-requires-clause-record_over
 turn_hand-requires-clause-record_over g c = c.loop-entry.invariant.over_n
-
-pub turn_hand-requires-clause-on_side : goal.turn_hand-requires-clause-on_side
-turn_hand-requires-clause-on_side g c =
-    let l = c.loop-entry in
-    let cut = rest_cons g.E.Entry.names _ _ c.loop-entry-test.true c.entry-item.is in
-    rw c.side.ensures (narrow-is_side _ (turning_side _ _ _ l.invariant cut))
 
 pub turn_hand-requires-clause-le_row : goal.turn_hand-requires-clause-le_row
 turn_hand-requires-clause-le_row g c =
