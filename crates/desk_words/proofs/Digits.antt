@@ -1,7 +1,7 @@
 -- Laws of one digit, decimal or hexadecimal, and of the byte that two hexadecimal ones say.
 use Rattle.std.proofs.Common.{ℕ, ◌+◌, ◌-◌, ◌*◌, ◌<◌, ◌≤◌, ◌≡◌, Bool, true, false, cond, ◌&&◌, arith, le-leb, leb, refl}
 use Rattle.std.proofs.lemmas.Bool.{lt-leb}
-use Rattle.std.specs.Prelude.{Option, None, Some}
+use Rattle.std.specs.Prelude.{None, Some}
 use Rattle.desk_words.specs.Numbers.{digit_of, within}
 use Rattle.desk_words.specs.Bytes.{hex_of, byte_in}
 use Rattle.desk_words.proofs.Reading.{within_some, within_none}

@@ -1,8 +1,8 @@
 -- Laws of what a word says part by part: the loop takes one part at a time.
-use Prim.Native.Nat.{ℕ, suc, ◌+◌, ◌≤◌, ◌<◌}
+use Prim.Native.Nat.{ℕ, ◌+◌, ◌≤◌, ◌<◌}
 use native.Mathlib.Omega.{arith}
 use native.Mathlib.Numerals.{add-one}
-use mathlib.Core.Path.{◌≡◌, refl, sym, ap, ◌∙◌}
+use mathlib.Core.Path.{◌≡◌, sym, ap, ◌∙◌}
 use mathlib.Core.Bool.{true, false}
 use mathlib.Core.List.{List, [], ◌∷◌}
 use Rattle.std.specs.Prelude.{Option, None, Some, MatchOption}
@@ -27,8 +27,11 @@ length_of None = 0
 length_of (Some text) = length text.now + 1
 
 module _ (text part : List ℕ) (after : Option (Bor (List ℕ))) (c : Cut 44 text part after) where
-  by_rest : (o : Option (Bor (List ℕ))) → MatchOption o (up_to_stop 44 text ≡ length text) (λ r. (up_to_stop 44 text < length text) × (r.now ≡ behind 44 text))
-      → pieces 44 text ≡ part ∷ left_of o
+  -- what is behind the part, if anything is
+  abbrev Behind : Option (Bor (List ℕ)) → Type 0
+  Behind o = MatchOption o (up_to_stop 44 text ≡ length text) (λ r. (up_to_stop 44 text < length text) × (r.now ≡ behind 44 text))
+
+  by_rest : (o : Option (Bor (List ℕ))) → Behind o → pieces 44 text ≡ part ∷ left_of o
   by_rest None h =
       let all : take (up_to_stop 44 text) text ≡ text = rw h (take-length text) in
       parts_last 44 text h ∙ ap (λ (p : List ℕ). p ∷ []) (sym (c.before ∙ all))
@@ -37,8 +40,7 @@ module _ (text part : List ℕ) (after : Option (Bor (List ℕ))) (c : Cut 44 te
   pub next_part : pieces 44 text ≡ part ∷ left_of after
   next_part = by_rest after c.after
 
-  shorter_by : (o : Option (Bor (List ℕ))) → MatchOption o (up_to_stop 44 text ≡ length text) (λ r. (up_to_stop 44 text < length text) × (r.now ≡ behind 44 text))
-      → length_of o < length text + 1
+  shorter_by : (o : Option (Bor (List ℕ))) → Behind o → length_of o < length text + 1
   unfolding behind
   shorter_by None h = omega arith
   shorter_by (Some r) h = rw h.1 (rw length-drop (omega (arith, h.0)))

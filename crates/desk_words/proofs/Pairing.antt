@@ -1,9 +1,9 @@
 -- Laws of the bytes that hexadecimal digits say: two digits for each.
-use Prim.Native.Nat.{ℕ, suc, ◌+◌, ◌-◌, ◌*◌, ◌≤◌, ◌<◌, ◌/◌, ◌%◌, ◌^◌}
+use Prim.Native.Nat.{ℕ, suc, ◌+◌, ◌*◌, ◌≤◌, ◌<◌, ◌/◌, ◌%◌}
 use native.Mathlib.Omega.{arith}
 use native.Mathlib.Numerals.{add-one}
 use mathlib.Core.Path.{◌≡◌, refl, sym, ap, subst, ◌∙◌}
-use mathlib.Core.Bool.{Bool, true, false, cond, ◌&&◌}
+use mathlib.Core.Bool.{Bool, true, false, cond}
 use mathlib.Core.List.{List, [], ◌∷◌}
 use Rattle.std.specs.Prelude.{Option, None, Some}
 use mathlib.Core.Logic.{◌⊎◌, inl, inr}
@@ -12,7 +12,7 @@ use lib.Dec.{eqb}
 use lib.ListN.{length, get_or, drop, set, drop_of_length-le}
 use lib.Seq.{drop-cons}
 use Rattle.desk_words.specs.Words.{dash}
-use Rattle.desk_words.specs.Bytes.{hex_of, byte_in, joined, pairs_in, pairs_of, bytes_in}
+use Rattle.desk_words.specs.Bytes.{byte_in, joined, pairs_in, pairs_of, bytes_in}
 use Rattle.desk_words.specs.Puts.{Puts}
 use Rattle.desk_words.proofs.Filling.{Filling, puts_none, puts-over, fill_none, fill_more, fill_bad, fill_end}
 

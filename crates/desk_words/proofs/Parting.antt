@@ -1,5 +1,7 @@
 -- Laws of the parts of a text, in std's words: `position_or_len` and `slice_split`.
-use Rattle.std.proofs.Common.{ℕ, suc, ◌+◌, ◌-◌, ◌<◌, ◌≤◌, ◌≡◌, Bool, true, false, not, cond, ◌&&◌, eqb, List, [], ◌∷◌, length, get_or, take, drop, sym, ltb, refl, ap, arith, ◌∙◌, Option, None, Some, slice_get, unwrap_or}
+use Rattle.std.proofs.Common.{ℕ, suc, ◌+◌, ◌-◌, ◌<◌, ◌≤◌, Bool, true, false, not, cond, eqb, ltb}
+use Rattle.std.proofs.Common.{List, [], ◌∷◌, length, get_or, take, drop, None, Some, slice_get, unwrap_or}
+use Rattle.std.proofs.Common.{◌≡◌, refl, sym, ap, ◌∙◌, arith}
 use borrow.Author.Tests.{ltb-true, ltb-false}
 use denote.Ref.{Bor}
 use lib.ListN.{length-drop}

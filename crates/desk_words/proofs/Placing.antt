@@ -1,5 +1,5 @@
 -- Laws of the place of a name among words.
-use Rattle.std.proofs.Common.{ℕ, ◌<◌, ◌≤◌, ◌≡◌, Bool, true, false, cond, ltb, List, length, refl, sym, arith, Option, None, Some}
+use Rattle.std.proofs.Common.{ℕ, ◌<◌, ◌≤◌, ◌≡◌, Bool, true, false, cond, ltb, List, length, refl, sym, arith, None, Some}
 use borrow.Author.Tests.{ltb-true, ltb-false}
 use Rattle.std.proofs.lemmas.Option.{cond_some}
 use Rattle.desk_words.specs.Words.{place_of, placed}

@@ -1,5 +1,6 @@
 -- The words of a line and the entries of a list: what stands between the places of one byte, the space or the comma.
-use Rattle.std.specs.Prelude.{ℕ, suc, Bool, true, false, cond, ◌&&◌, List, [], ◌∷◌, eqb, ltb, get_or, take, drop, length, ◌<◌, ◌≡◌, Option, None, Some, MatchOption}
+use Rattle.std.specs.Prelude.{ℕ, suc, ◌<◌, ◌≡◌, Bool, true, false, cond, ◌&&◌, eqb, ltb}
+use Rattle.std.specs.Prelude.{List, [], ◌∷◌, get_or, take, drop, length, Option, None, Some, MatchOption}
 use denote.Ref.{Bor}
 
 -- How many bytes stand before the first `stop`; all of them where there is none.

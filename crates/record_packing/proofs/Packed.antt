@@ -30,11 +30,6 @@ abbrev pub ShapedParts : Parts → Type 0
 ShapedParts P = Shaped P.size P.left_rows P.right_rows P.links P.left_layout P.right_layout
 
 -- where the hold, n and the lengths pass
-pub shape_some : (h n l r p ll rl : ℕ) → shape_refusal h n l r p ll rl ≡ 0 → 1 ≤ n
-unfolding shape_refusal
-shape_some h n l r p ll rl e =
-    (sized n (none_first (no_size n) 5 _ (omega arith) (none_first (not (is_hold h)) 4 _ (omega arith) e).1).0).0
-
 pub shape_good : (P : Parts) → parts_shape_refusal P ≡ 0 → (is_hold P.hold ≡ true) × ShapedParts P
 unfolding shape_refusal
 shape_good P e =

@@ -15,7 +15,7 @@ use Rattle.record_fields.specs.Refusals.{refusal, RecordOver}
 use Rattle.record_fields.specs.Refused.{NumberAndRow, refused, refused_row, number_of, row_of, lent}
 use Rattle.record_fields.specs.Told.{told_of, OwnRow}
 use Rattle.record_fields.proofs.Heading.{none_first}
-use Rattle.record_fields.proofs.Acceptance.{else_first, else_second, none_both, accepted-sized}
+use Rattle.record_fields.proofs.Acceptance.{else_first, else_second, none_both}
 use Rattle.record_fields.proofs.Refused.{lent-refused, lent-accepted, refuses}
 use Rattle.record_fields.proofs.Told.{Alone, told-alone, told_none, alone_when, alone_0, each_when, own_then}
 use Rattle.record_fields.proofs.Stores.{sets_front, length-numbers, length-bytes}
@@ -147,8 +147,8 @@ module _ (s left right links left_layout right_layout : List ℕ) where
           left' ≡ sets left 0 (parts_of s n).left_rows → right' ≡ sets right 0 (parts_of s n).right_rows →
           links' ≡ sets links 0 (parts_of s n).links → left-layout' ≡ sets left_layout 0 (parts_of s n).left_layout →
           right-layout' ≡ sets right_layout 0 (parts_of s n).right_layout →
-          Unpacks s left right links left_layout right_layout (record { refusal = refused 0; hold = h; n = n }) left' right' links' left-layout'
-          right-layout'
+          Unpacks s left right links left_layout right_layout (record { refusal = refused 0; hold = h; n = n })
+          left' right' links' left-layout' right-layout'
       unfolding parts_of
       unpack-accepted d w₁ w₂ w₃ w₄ w₅ =
           let f : n ≡ size_of s = sym over.sized.says in

@@ -7,7 +7,8 @@ use Rattle.record_unpacking.specs.Refusals.{room_refusal}
 
 -- The refusal of the room, with the number of places that they have.
 abbrev pub room_in : ℕ → Buffers → ℕ
-room_in n b = room_refusal n (length b.left.now) (length b.right.now) (length b.links.now) (length b.leftlayout.now) (length b.rightlayout.now)
+room_in n b =
+    room_refusal n (length b.left.now) (length b.right.now) (length b.links.now) (length b.leftlayout.now) (length b.rightlayout.now)
 
 -- Each part is in the first places of its buffer, and beyond them the buffer is as found.
 pub record Filled (P : Parts) (b b' : Buffers) : Type 0 where

@@ -1,3 +1,4 @@
+-- `bytes`: two digits by two, each pair's byte put in its place.
 use Rattle.std.proofs.Common.{arith, sym, ◌∙◌, ◌≡◌}
 use Rattle.desk_words.proofs.Pairing.{paired_none, paired_more, paired_bad, paired_all, pair_none, pair_narrow, dash-said}
 use Rattle.desk_words.proofs.Filling.{puts_empty}

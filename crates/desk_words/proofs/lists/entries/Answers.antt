@@ -1,3 +1,4 @@
+-- `entries`: the parts between commas are read one by one, and each has its place in the list.
 use Rattle.std.proofs.Common.{arith, refl, sym, length-set, ◌∙◌}
 use Rattle.std.proofs.lemmas.Fn.{says_at}
 use Rattle.desk_words.proofs.Listing.{listed_none, listed_more, listed_bad, listed_full, listed_all, dash-said, shorter}

@@ -1,5 +1,4 @@
 -- `hand`: by the colon and the two numbers.
-use Rattle.std.proofs.Common.{arith}
 use Rattle.desk_words.proofs.Handing.{no_colon, bad_side, bad_row, both-said}
 use Rattle.desk_words.proofs.lists.hand.Goals as goal
 

@@ -1,3 +1,4 @@
+-- `number`: digit by digit, what is read so far is the value of the digits read, and none beyond the limit.
 use Rattle.std.proofs.Common.{arith, sym, length, ◌∙◌, ◌≡◌}
 use Rattle.desk_words.proofs.Reading.{read_none, read_digit, no_digit, nothing_read, some_left, too_large, all_read}
 use Rattle.desk_words.proofs.numbers.number.Goals as goal

@@ -1,6 +1,6 @@
 -- `signed`: by the dash in front, and the number that the digits say.
 use Rattle.std.proofs.Common.{arith, ap, ◌∙◌, Some}
-use Rattle.std.proofs.lemmas.Int.{ints, to_z-of_z}
+use Rattle.std.proofs.lemmas.Int.{ints}
 use Rattle.desk_words.proofs.Reading.{bounded}
 use Rattle.desk_words.proofs.Signing.{dash_told, dash_none, bare_told, bare_none, narrowed, widened}
 use Rattle.desk_words.proofs.tables.signed.Goals as goal

@@ -1,5 +1,5 @@
 -- `place`: what `position` says of the parts that `split` yields.
-use Rattle.std.proofs.Common.{eqb, rules, tests, sym}
+use Rattle.std.proofs.Common.{eqb, rules, tests}
 use Rattle.std.proofs.lemmas.Iterator.Search.{position_from_yields_List}
 use Rattle.std.proofs.lemmas.Iterator.Splits.{YieldsList-from_slice_split}
 use Rattle.std.specs.Cmp.Lexicographic.{pointwise}

@@ -1,5 +1,5 @@
 -- `shaped` answers the first of the refusals of the hold, n and the lengths, or keeps what was given.
-use Rattle.std.proofs.Common.{ap, arith, false, refl, sym, true, ◌∙◌, ◌≡◌}
+use Rattle.std.proofs.Common.{ap, arith, sym, ◌∙◌}
 use Rattle.std.proofs.lemmas.Result.{err_from_is_err_and}
 use Rattle.record_fields.specs.Fields.{given}
 use Rattle.record_fields.specs.Refused.{refused}

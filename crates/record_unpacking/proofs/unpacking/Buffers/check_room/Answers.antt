@@ -1,5 +1,5 @@
 -- `check_room` refuses where a buffer is too short.
-use Rattle.std.proofs.Common.{ap, length, arith, le-ltb, refl, sym, ◌≡◌}
+use Rattle.std.proofs.Common.{ap, length, arith, sym}
 use Rattle.record_fields.specs.Refused.{refused}
 use Rattle.record_unpacking.proofs.Unpacked.{Room, room_0, room_14}
 use Rattle.record_unpacking.proofs.unpacking.Buffers.check_room.Goals.{then-self-m-via-then-self-m}
