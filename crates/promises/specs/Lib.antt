@@ -1,4 +1,5 @@
 pub mod Outcomes
+pub mod Results
 pub mod Tests
 pub mod RefusedCalls
 pub mod RowTold

@@ -35,8 +35,11 @@ pub fn bytes_in(list: &[u8], out: &mut [u8], at: usize)
     requires { at + length list.now ≤ length out.old }
     ensures { out.new ≡ sets out.old at list.now }
 {
-    let end = at + list.len();
-    out[at..end].copy_from_slice(list);
+    // The library's copy was tried: it makes `memmove` of the parts of packing and unpacking, a name that the archive
+    // for C would need from outside.
+    for (i, &x) in list.iter().enumerate() {
+        out[at + i] = x;
+    }
 }
 
 // Writes the numbers of list to out's first places.

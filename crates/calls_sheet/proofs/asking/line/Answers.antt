@@ -4,10 +4,10 @@ use Rattle.record.proofs.Outcomes.{read-told, read-refuses}
 use Rattle.calls_sheet.proofs.Saying.{says-shown, says-run, says-refused}
 use Rattle.calls_sheet.proofs.asking.line.Goals as goal
 
-pub returns-in-Err : goal.returns-in-Err
-returns-in-Err c =
-    let e = c.in-Err.ensures.reads in
-    says-refused _ _ (omega arith) (read-refuses _ _ e) (read-told _ _ e) c.refused_at.ensures
+pub returns-in_default : goal.returns-in_default
+returns-in_default c =
+    let e = c.in_default.ensures.reads in
+    says-refused _ _ (omega arith) (read-refuses _ _ e) (read-told _ _ e) (rw c.in_default.is at c.refused_in.ensures)
 
 pub returns-then-k-eq6 : goal.returns-then-k-eq6
 returns-then-k-eq6 c = says-run _ _ (omega arith) c.in-Ok.ensures.over.0.accepted c.if-k-eq6.true c.run_line.ensures
