@@ -20,9 +20,14 @@ tree_in s = given_tree s.rows.now s.lay.now
 abbrev pub layouts_in : OneSide → OneSide → Layouts
 layouts_in l r = layouts_from l.lay.now r.lay.now
 
--- A side's arrays are those that another's were: its rows and its layout are written where that one's would be.
+-- A side's arrays are those that another's were: its rows, its layout and its order are written where that one's would be, and
+-- its leaf counts are that one's.
 abbrev pub SameArrays : OneSide → OneSide → Type 0
-SameArrays s s' = (s'.rows.ghost_name ≡ s.rows.ghost_name) × (s'.lay.ghost_name ≡ s.lay.ghost_name)
+SameArrays s s' =
+    (s'.rows.ghost_name ≡ s.rows.ghost_name)
+    × (s'.lay.ghost_name ≡ s.lay.ghost_name)
+    × (s'.order.ghost_name ≡ s.order.ghost_name)
+    × (s'.many.now ≡ s.many.now)
 
 -- A side stands while another is freed: of its arrays at most the one for its order is written.
 pub record Stands (s s' : OneSide) : Type 0 where

@@ -16,12 +16,13 @@ pub const FIRST_GROUP: u16 = 1024;
 
 // The rows of the groups that have closed, two entries each, from the first place on; how many have closed; the object
 // that was read last; and how many groups are open. The statements speak of them as one list, in this order.
+// The fields are public, so that a caller can bring numbers of its own, whatever they are.
 #[derive(Drop)]
 pub struct Notes {
-    rows: [u16; 1022],
-    closed: u16,
-    last: u16,
-    open: u16,
+    pub rows: [u16; 1022],
+    pub closed: u16,
+    pub last: u16,
+    pub open: u16,
 }
 
 impl Model for Notes {

@@ -7,9 +7,10 @@ ghost use Rattle.work_seen_places.specs.Seen.{digit, low_ones, is_marked, all_be
 use std::marker::Model;
 
 // The places that are marked. In clauses it is the list of its words.
-#[derive(Drop)]
+// The field is public, so that a caller can bring words of its own, whatever they are.
+#[derive(Clone, Copy)]
 pub struct Seen {
-    words: [u64; 8],
+    pub words: [u64; 8],
 }
 
 impl Model for Seen {
@@ -18,6 +19,8 @@ impl Model for Seen {
     ghost Value = { List ℕ };
 
     ghost view = { λ s. s.words };
+
+    ghost inverse = { λ list. record { words = list } };
 }
 
 impl Seen {

@@ -7,19 +7,21 @@ ghost use Rattle.work_tree_rule.specs.Rule.{bad_row, row_found};
 use crate::numbers::Numbers;
 use std::marker::Model;
 
-// Marks at the objects that rows use. Statements speak of the list of them, 1 at a used object and 0 elsewhere.
-#[derive(Drop)]
+// Marks at the objects that rows use, and 0 at each other object. Statements speak of the list of them.
+// The field is public, so that a caller can bring marks of its own, whatever they are.
+#[derive(Clone, Copy)]
 pub struct Used {
-    marks: [bool; 1024],
+    pub marks: [u8; 1024],
 }
 
 impl Model for Used {
-    ghost use Rattle.std.specs.Prelude.{ℕ, List, map};
-    ghost use Rattle.tanglegram.specs.Lists.{bit};
+    ghost use Rattle.std.specs.Prelude.{ℕ, List};
 
     ghost Value = { List ℕ };
 
-    ghost view = { λ u. map bit u.marks };
+    ghost view = { λ u. u.marks };
+
+    ghost inverse = { λ list. record { marks = list } };
 }
 
 impl Used {
@@ -27,9 +29,7 @@ impl Used {
     pub fn new() -> Self
         ensures { result ≡ replicate 1024 0 }
     {
-        Used {
-            marks: [false; 1024],
-        }
+        Used { marks: [0; 1024] }
     }
 
     // Whether the row that makes object `made` can't have obj for an entry: it is 0, or not below made, or marked.
@@ -37,7 +37,7 @@ impl Used {
         requires { made ≤ 1024 }
         ensures { result ≡ refused_by self.now made obj }
     {
-        obj == 0 || made <= usize::from(obj) || self.marks[usize::from(obj)]
+        obj == 0 || made <= usize::from(obj) || self.marks[usize::from(obj)] != 0
     }
 
     // Whether the row that makes object `made` of a and b breaks the rule. If it keeps it, both are marked as used.
@@ -49,8 +49,8 @@ impl Used {
         if a == b || self.refuses(a, made) || self.refuses(b, made) {
             return true;
         }
-        self.marks[usize::from(b)] = true;
-        self.marks[usize::from(a)] = true;
+        self.marks[usize::from(b)] = 1;
+        self.marks[usize::from(a)] = 1;
         false
     }
 }

@@ -31,11 +31,15 @@ loop-taken-preserved c =
     let within : c.loop-taken.taken < c.args.allowance = c.loop-taken-test.true in
     let i = c.loop-taken.invariant in
     let e = c.take_turn-turn.ensures in
+    let left_was = i.left_arrays in
+    let left_is = e.left_arrays in
+    let right_was = i.right_arrays in
+    let right_is = e.right_arrays in
     record {
       in_memory = f.in_memory;
       at_hand = rw c.other-side.ensures e.order_at_hand_2;
-      left_arrays = (e.left_arrays.0 ∙ i.left_arrays.0, e.left_arrays.1 ∙ i.left_arrays.1);
-      right_arrays = (e.right_arrays.0 ∙ i.right_arrays.0, e.right_arrays.1 ∙ i.right_arrays.1);
+      left_arrays = (left_is.0 ∙ left_was.0, left_is.1 ∙ left_was.1, left_is.2 ∙ left_was.2, left_is.3 ∙ left_was.3);
+      right_arrays = (right_is.0 ∙ right_was.0, right_is.1 ∙ right_was.1, right_is.2 ∙ right_was.2, right_is.3 ∙ right_was.3);
       run =
           rw c.other-side.ensures
           (turning_gain _ _ _ _ _ _ _ _ i.run within _ f.afterwards _ _ f.counted f.recounted c.if-turn-last.false);
