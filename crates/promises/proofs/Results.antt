@@ -4,7 +4,7 @@ use mathlib.Core.Path.{◌≡◌, refl, sym, ap, ◌∙◌}
 use mathlib.Core.Bool.{Bool, true, false}
 use borrow.Author.Tests.{ne_eqb}
 use lib.Dec.{eqb}
-use Rattle.std.specs.Prelude.{Option, Some, None, Result, Ok, Err, Unit, cond}
+use Rattle.std.specs.Prelude.{Option, Some, None, Result, Ok, Err, cond}
 use Rattle.tanglegram.specs.Lists.{bit}
 use Rattle.work_freeing.specs.declared.rows.Sums.{Sums}
 use Rattle.work_turns.specs.declared.running.Taken.{Taken}
@@ -15,7 +15,7 @@ use Rattle.record_fields.specs.declared.refusal.Refusal.TheVariants as refusal
 use Rattle.record_fields.specs.Fixes.{Fixes, FixesBoth}
 use Rattle.record_fields.specs.Holds.{letter_of}
 use Rattle.record_fields.specs.Refused.{NumberAndRow, number_of, row_of, told}
-use Rattle.record_fields.proofs.Refused.{refused-some}
+use Rattle.record_fields.proofs.Refused.{refused-some, refusal_at, refusal_back}
 use Rattle.record.specs.declared.heading.Header.{Header}
 use Rattle.record.specs.Calls.{Reading, Accepted, Refused, reading}
 use Rattle.record.proofs.Outcomes.{equal_to_one}
@@ -37,52 +37,18 @@ use Rattle.promises.specs.Results as Results
 use Rattle.promises.specs.Results.{OneToOne, FixesResult, FixesResultBoth}
 use Rattle.promises.proofs.Outcomes.{outcomes}
 
--- ---- a refusal by its number and its row
-
-refusal_at : ℕ → ℕ → Refusal
-refusal_at k i =
-    cond (eqb k 1) refusal.Short (cond (eqb k 2) refusal.Mark (cond (eqb k 3) refusal.Version (cond (eqb k 4) refusal.Hold
-    (cond (eqb k 5) refusal.Size (cond (eqb k 6) refusal.Length (cond (eqb k 7) (refusal.LeftRow i) (cond (eqb k 8) (refusal.RightRow i)
-    (cond (eqb k 9) refusal.Links (cond (eqb k 10) refusal.Layout (cond (eqb k 11) refusal.Held (cond (eqb k 12) refusal.Allowance
-    (cond (eqb k 13) refusal.Side (cond (eqb k 14) refusal.Room (cond (eqb k 15) refusal.Row (cond (eqb k 16) refusal.Order
-    (cond (eqb k 17) refusal.Hands (cond (eqb k 18) refusal.Grammar (cond (eqb k 19) refusal.Leaves (cond (eqb k 20) refusal.Entry
-    (cond (eqb k 21) refusal.Twice (cond (eqb k 22) refusal.Pinned refusal.AgainstPin)))))))))))))))))))))
-
-back : (r : Refusal) → refusal_at (number_of r) (row_of r) ≡ r
-back refusal.Short = refl
-back refusal.Mark = refl
-back refusal.Version = refl
-back refusal.Hold = refl
-back refusal.Size = refl
-back refusal.Length = refl
-back (refusal.LeftRow i) = refl
-back (refusal.RightRow i) = refl
-back refusal.Links = refl
-back refusal.Layout = refl
-back refusal.Held = refl
-back refusal.Allowance = refl
-back refusal.Side = refl
-back refusal.Room = refl
-back refusal.Row = refl
-back refusal.Order = refl
-back refusal.Hands = refl
-back refusal.Grammar = refl
-back refusal.Leaves = refl
-back refusal.Entry = refl
-back refusal.Twice = refl
-back refusal.Pinned = refl
-back refusal.AgainstPin = refl
+-- ---- a result by its number and its row
 
 -- what a number and a row tell of a result, where none is refused with that value
-result_at : {A : Type 0} → NumberAndRow → A → Result A Refusal
+abbrev result_at : {A : Type 0} → NumberAndRow → A → Result A Refusal
 result_at a x = cond (eqb a.number 0) (Ok x) (Err (refusal_at a.number a.row))
 
 at_error : {A : Type 0} (r : Refusal) (x : A) → result_at (record { number = number_of r; row = row_of r }) x ≡ Err r
-at_error r x = rw (ne_eqb (number_of r) 0 (refused-some r)) (ap Err (back r))
+at_error r x = rw (ne_eqb (number_of r) 0 (refused-some r)) (ap Err (refusal_back r))
 
 -- ---- letters, bits and which of two
 
-hold_from : ℕ → Hold
+abbrev hold_from : ℕ → Hold
 hold_from x = cond (eqb x 78) hold.Neither (cond (eqb x 76) hold.Left (cond (eqb x 82) hold.Right hold.Both))
 
 hold_back : (h : Hold) → hold_from (letter_of h) ≡ h
@@ -95,7 +61,7 @@ bit_back : (b : Bool) → eqb (bit b) 1 ≡ b
 bit_back true = refl
 bit_back false = refl
 
-which_from : ℕ → Which
+abbrev which_from : ℕ → Which
 which_from x = cond (eqb x 1) First Second
 
 which_back : (w : Which) → which_from (number_for w) ≡ w
@@ -107,42 +73,42 @@ which_back Second = refl
 one_by : {A B : Type 0} (f : A → B) (g : B → A) → ((a : A) → g (f a) ≡ a) → OneToOne f
 one_by f g h a b e = sym (h a) ∙ ap g e ∙ h b
 
-told_one : OneToOne (told {Unit {0}})
+told_one : OneToOne (told {A = Unit {0}})
 told_one (Ok x) (Ok y) e = refl
 told_one (Ok x) (Err r) e = absurd (refused-some r (sym (ap (λ (a : NumberAndRow). a.number) e)))
 told_one (Err r) (Ok x) e = absurd (refused-some r (ap (λ (a : NumberAndRow). a.number) e))
 told_one (Err r) (Err r') e =
-    sym (ap Err (back r)) ∙ ap (λ (a : NumberAndRow). Err (refusal_at a.number a.row)) e ∙ ap Err (back r')
+    sym (ap Err (refusal_back r)) ∙ ap (λ (a : NumberAndRow). Err (refusal_at a.number a.row)) e ∙ ap Err (refusal_back r')
 
-header_from : ℕ → ℕ → Header
+abbrev header_from : ℕ → ℕ → Header
 header_from letter n = record { hold = hold_from letter; n = n }
 
 header_back : (h : Header) → header_from (letter_of h.hold) h.n ≡ h
 header_back h = rw (hold_back h.hold) refl
 
-reading_from : Reading → Result Header Refusal
+abbrev reading_from : Reading → Result Header Refusal
 reading_from (Accepted h) = Ok (header_from h.hold h.n)
 reading_from (Refused a) = Err (refusal_at a.number a.row)
 
 reading_back : (r : Result Header Refusal) → reading_from (reading r) ≡ r
 reading_back (Ok h) = ap Ok (header_back h)
-reading_back (Err r) = ap Err (back r)
+reading_back (Err r) = ap Err (refusal_back r)
 
-unpacked_from : Unpacked → Result Header Refusal
+abbrev unpacked_from : Unpacked → Result Header Refusal
 unpacked_from a = result_at a.refusal (header_from a.hold a.n)
 
 unpacked_back : (r : Result Header Refusal) → unpacked_from (unpacked r) ≡ r
 unpacked_back (Ok h) = ap Ok (header_back h)
 unpacked_back (Err r) = at_error r _
 
-counted_from : Counted → Result ℕ Refusal
+abbrev counted_from : Counted → Result ℕ Refusal
 counted_from a = result_at a.refusal a.count
 
 counted_back : (r : Result ℕ Refusal) → counted_from (counted r) ≡ r
 counted_back (Ok x) = refl
 counted_back (Err r) = at_error r _
 
-squared_from : SquaredEntanglement → Result (Option Measured) Refusal
+abbrev squared_from : SquaredEntanglement → Result (Option Measured) Refusal
 squared_from (squared.Ratio d w x) = Ok (Some (record { displacement = d; worst = w; ratio = x }))
 squared_from squared.NoRatio = Ok None
 squared_from (squared.Refused a) = Err (refusal_at a.number a.row)
@@ -150,9 +116,9 @@ squared_from (squared.Refused a) = Err (refusal_at a.number a.row)
 squared_back : (r : Result (Option Measured) Refusal) → squared_from (squared r) ≡ r
 squared_back (Ok (Some m)) = refl
 squared_back (Ok None) = refl
-squared_back (Err r) = ap Err (back r)
+squared_back (Err r) = ap Err (refusal_back r)
 
-thousandths_from : InThousandths → Result (Option ℕ) Refusal
+abbrev thousandths_from : InThousandths → Result (Option ℕ) Refusal
 thousandths_from (thousandths.Ratio k) = Ok (Some k)
 thousandths_from thousandths.NoRatio = Ok None
 thousandths_from (thousandths.Refused a) = Err (refusal_at a.number a.row)
@@ -160,44 +126,44 @@ thousandths_from (thousandths.Refused a) = Err (refusal_at a.number a.row)
 thousandths_back : (r : Result (Option ℕ) Refusal) → thousandths_from (in_thousandths r) ≡ r
 thousandths_back (Ok (Some k)) = refl
 thousandths_back (Ok None) = refl
-thousandths_back (Err r) = ap Err (back r)
+thousandths_back (Err r) = ap Err (refusal_back r)
 
-freed_from : Freed → Result Sums Refusal
+abbrev freed_from : Freed → Result Sums Refusal
 freed_from a = result_at a.refusal (record { before = a.before; after = a.after })
 
 freed_back : (r : Result Sums Refusal) → freed_from (freed r) ≡ r
 freed_back (Ok x) = refl
 freed_back (Err r) = at_error r _
 
-ran_from : Ran → Result Taken Refusal
+abbrev ran_from : Ran → Result Taken Refusal
 ran_from a = result_at a.refusal (record { first = a.first; last = a.last; turns = a.turns; settled = eqb a.settled 1 })
 
 ran_back : (r : Result Taken Refusal) → ran_from (ran r) ≡ r
 ran_back (Ok x) = rw (bit_back x.settled) refl
 ran_back (Err r) = at_error r _
 
-compared_from : Compared → Result Better Refusal
+abbrev compared_from : Compared → Result Better Refusal
 compared_from a = result_at a.refusal (record { which = which_from a.which; length = a.length })
 
 compared_back : (r : Result Better Refusal) → compared_from (compared r) ≡ r
 compared_back (Ok x) = rw (which_back x.which) refl
 compared_back (Err r) = at_error r _
 
-taken_in_from : TakenIn → Result Weight Refusal
+abbrev taken_in_from : TakenIn → Result Weight Refusal
 taken_in_from a = result_at a.refusal (record { count = a.count; least = eqb a.least 1 })
 
 taken_in_back : (r : Result Weight Refusal) → taken_in_from (taken_in r) ≡ r
 taken_in_back (Ok x) = rw (bit_back x.least) refl
 taken_in_back (Err r) = at_error r _
 
-read_as_from : NewickRead → Result ℕ Refusal
+abbrev read_as_from : NewickRead → Result ℕ Refusal
 read_as_from a = result_at a.refusal a.n
 
 read_as_back : (r : Result ℕ Refusal) → read_as_from (read_as r) ≡ r
 read_as_back (Ok x) = refl
 read_as_back (Err r) = at_error r _
 
-written_as_from : NewickWritten → Result ℕ Refusal
+abbrev written_as_from : NewickWritten → Result ℕ Refusal
 written_as_from a = result_at a.refusal a.length
 
 written_as_back : (r : Result ℕ Refusal) → written_as_from (written_as r) ≡ r

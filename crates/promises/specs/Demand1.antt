@@ -3,6 +3,7 @@
 -- `Frees`, .., in its crate's `specs/Calls`), which the code is proved to meet. ("Document 01" is the customer's; what it fixes is, in
 -- words, docs/CALLS.md and docs/RECORD.md.)
 use Rattle.promises.specs.Outcomes.{Outcomes}
+use Rattle.promises.specs.Results.{Results}
 use Rattle.promises.specs.Tests.{Tests}
 use Rattle.promises.specs.RefusedCalls.{RefusedCalls}
 use Rattle.promises.specs.RowTold.{RowTold}
@@ -14,6 +15,8 @@ use Rattle.promises.specs.PinOnly.{PinPromise}
 pub record Demand1 : Type 0 where
   -- "Every call .. either answers or refuses as .. fixes": each statement has one outcome, for every input.
   pub one_outcome : Outcomes
+  -- .. and with it the result that the call answers is fixed: different results come to different answers in numbers.
+  pub one_result : Results
   -- And the tests in them say what their words mean.
   pub tests_mean : Tests
   -- "A refused call changes no lent byte", and answers zeros.

@@ -2,9 +2,11 @@
 use Prim.Native.Nat.{ℕ, ◌≤◌}
 use mathlib.Core.Path.{◌≡◌, refl, ap, ◌∙◌}
 use mathlib.Core.Logic.{◌≢◌}
+use mathlib.Core.Bool.{cond}
 use mathlib.Core.List.{List, ◌++◌}
 use native.Mathlib.Omega.{arith}
 use borrow.Author.Tests.{eq-eqb, ne_eqb}
+use lib.Dec.{eqb}
 use lib.ListN.{length, drop}
 use Rattle.record_fields.specs.declared.refusal.Refusal.{Refusal}
 use Rattle.record_fields.specs.declared.refusal.Refusal.TheVariants as refusal
@@ -54,3 +56,39 @@ refused-some r e = let some = some-number r in omega arith
 -- so what is told of one has another
 pub refuses : (r : Refusal) {k row : ℕ} → refused_row (number_of r) (row_of r) ≡ refused_row k row → k ≢ 0
 refuses r e z = refused-some r (ap (λ (a : NumberAndRow). a.number) e ∙ z)
+
+-- the refusal of a number and a row: two that tell the same are one
+
+abbrev pub refusal_at : ℕ → ℕ → Refusal
+refusal_at k i =
+    cond (eqb k 1) refusal.Short (cond (eqb k 2) refusal.Mark (cond (eqb k 3) refusal.Version (cond (eqb k 4) refusal.Hold
+    (cond (eqb k 5) refusal.Size (cond (eqb k 6) refusal.Length (cond (eqb k 7) (refusal.LeftRow i) (cond (eqb k 8) (refusal.RightRow i)
+    (cond (eqb k 9) refusal.Links (cond (eqb k 10) refusal.Layout (cond (eqb k 11) refusal.Held (cond (eqb k 12) refusal.Allowance
+    (cond (eqb k 13) refusal.Side (cond (eqb k 14) refusal.Room (cond (eqb k 15) refusal.Row (cond (eqb k 16) refusal.Order
+    (cond (eqb k 17) refusal.Hands (cond (eqb k 18) refusal.Grammar (cond (eqb k 19) refusal.Leaves (cond (eqb k 20) refusal.Entry
+    (cond (eqb k 21) refusal.Twice (cond (eqb k 22) refusal.Pinned refusal.AgainstPin)))))))))))))))))))))
+
+pub refusal_back : (r : Refusal) → refusal_at (number_of r) (row_of r) ≡ r
+refusal_back refusal.Short = refl
+refusal_back refusal.Mark = refl
+refusal_back refusal.Version = refl
+refusal_back refusal.Hold = refl
+refusal_back refusal.Size = refl
+refusal_back refusal.Length = refl
+refusal_back (refusal.LeftRow i) = refl
+refusal_back (refusal.RightRow i) = refl
+refusal_back refusal.Links = refl
+refusal_back refusal.Layout = refl
+refusal_back refusal.Held = refl
+refusal_back refusal.Allowance = refl
+refusal_back refusal.Side = refl
+refusal_back refusal.Room = refl
+refusal_back refusal.Row = refl
+refusal_back refusal.Order = refl
+refusal_back refusal.Hands = refl
+refusal_back refusal.Grammar = refl
+refusal_back refusal.Leaves = refl
+refusal_back refusal.Entry = refl
+refusal_back refusal.Twice = refl
+refusal_back refusal.Pinned = refl
+refusal_back refusal.AgainstPin = refl
