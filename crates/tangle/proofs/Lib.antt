@@ -1,3 +1,4 @@
 pub mod Widened
+pub mod Cases
 pub mod Outcomes
 pub mod RowsForC
