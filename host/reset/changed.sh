@@ -14,10 +14,20 @@ module=target/staticlib/libtangle.a.bc
 [ "${1:-}" = made ] || archive tangle
 module_text "$module" "$out/unchanged.ll"
 
+# The name in the module of a generic function, which is there for one type.
+instance() { # FUNCTION
+  local names
+  mapfile -t names < <(grep -o "^define [^@]*@\"$1::<[^\"]*" "$out/unchanged.ll" | cut -d '"' -f 2)
+  [ "${#names[@]}" = 1 ] || { echo "changed: ${#names[@]} of $1 in the module" >&2; exit 1; }
+  echo "${names[0]}"
+}
+layout_at=$(instance record_arrays::places::layout_at)
+put_row_byte=$(instance record_arrays::rows::put_row_byte)
+
 # The other side's first layout byte turned over and back. A record is lent as a pointer, %a0, and its length, %a1; a side
 # is 0, the left, or 1.
 turn_and_back='define internal void @turn_and_back(ptr %s, i16 %n, i8 %side) noinline {
-  %at = call i64 @"record_arrays::places::layout_at"(i16 %n, i8 %side)
+  %at = call i64 @"'$layout_at'"(i16 %n, i8 %side)
   %p = getelementptr i8, ptr %s, i64 %at
   %x = load volatile i8, ptr %p
   %y = xor i8 %x, 1
@@ -65,7 +75,7 @@ with_text() { # NAME
 {
   changed record_fields::copying::bytes_in '^  call .*copy_from_slice' '  call void @through_7(PART)' \
     < "$out/unchanged.ll" |
-    changed record_arrays::rows::put_row_byte '^  store i8 %' '  store volatile i8 7, ptr POINTER, align 1' |
+    changed "$put_row_byte" '^  store i8 %' '  store volatile i8 7, ptr POINTER, align 1' |
     changed record::hold::set_hold '^  store i8 %' '  store volatile i8 0, ptr POINTER, align 1'
   echo "$through_7"
 } > "$out/through.ll"
@@ -73,7 +83,7 @@ with_text() { # NAME
   changed record_arrays::putting_back::put_back '^  ret void' \
     $'  call void @turn_and_back(ptr %a0, i16 %a2, i8 0)\n  call void @turn_and_back(ptr %a0, i16 %a2, i8 1)' \
     < "$out/unchanged.ll" |
-    changed record_arrays::rows::put_row_byte '^  ret void' \
+    changed "$put_row_byte" '^  ret void' \
       $'  %other = sub i8 1, %a3\n  call void @turn_and_back(ptr %a0, i16 %a2, i8 %other)'
   echo "$turn_and_back"
 } > "$out/back.ll"

@@ -18,7 +18,7 @@ use tanglegram::Side;
 use work_trees::{flipped, may_change};
 
 // Tests an entry's side and row for an accepted record with that heading.
-fn test_hand(s: &[u8], header: Header, side: u16, row: u16) -> Result<(), Refusal>
+pub fn test_hand(s: &[u8], header: Header, side: u16, row: u16) -> Result<(), Refusal>
     requires record_over { RecordOver s.now header.n }
     requires holds { letter_of header.hold ≡ hold_of s.now }
     ensures { told result ≡ refused (hand_refusal s.now (hand side row)) }

@@ -5,4 +5,4 @@ mod entries;
 mod handing;
 
 pub use entries::Entry;
-pub use handing::{hands, turn_each, turn_hand};
+pub use handing::{hands, test_hand, turn_each, turn_hand};

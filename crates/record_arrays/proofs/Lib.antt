@@ -1,3 +1,4 @@
+pub mod Held
 pub mod AsItStands
 pub mod Relaying
 pub mod OneRow

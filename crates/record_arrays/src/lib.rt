@@ -5,9 +5,11 @@
 mod places;
 mod putting_back;
 mod rows;
+mod sides;
 mod taking_apart;
 
-pub use places::{layout_at, rows_at, side_of};
+pub use places::{layout_at, rows_at};
 pub use putting_back::put_back;
 pub use rows::{is_row, put_row_byte, row_byte};
+pub use sides::{SaysSide, is_held, side_of};
 pub use taking_apart::{fill_layout, fill_side, side_order, take_layouts, take_orders, take_trees};

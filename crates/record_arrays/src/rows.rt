@@ -6,7 +6,7 @@ ghost use Rattle.record_arrays.specs.Rows.{no_row, row_byte, with_byte};
 ghost use Rattle.record_arrays.specs.Sides.{RecordOver};
 
 use crate::places::layout_at;
-use tanglegram::Side;
+use crate::sides::SaysSide;
 
 // Whether a tree over n leaves has that row.
 pub fn is_row(n: u16, row: u16) -> bool
@@ -16,19 +16,19 @@ pub fn is_row(n: u16, row: u16) -> bool
 }
 
 // The layout byte of a side's row.
-pub fn row_byte(s: &[u8], n: u16, side: Side, row: u16) -> u8
+pub fn row_byte<S: SaysSide>(s: &[u8], n: u16, side: S, row: u16) -> u8
     requires record_over { RecordOver s.now n }
     requires le_row { (1 ≤ row) × (row < n) }
-    ensures { result ≡ row_byte s.now side row }
+    ensures { result ≡ row_byte s.now (S.said side) row }
 {
     s[layout_at(n, side) + (row as usize - 1)]
 }
 
 // Puts x for the layout byte of a side's row.
-pub fn put_row_byte(s: &mut [u8], n: u16, side: Side, row: u16, x: u8)
+pub fn put_row_byte<S: SaysSide>(s: &mut [u8], n: u16, side: S, row: u16, x: u8)
     requires record_over { RecordOver s.old n }
     requires le_row { (1 ≤ row) × (row < n) }
-    ensures { s.new ≡ relaid s.old (with_byte side row x (layouts_of s.old)) }
+    ensures { s.new ≡ relaid s.old (with_byte (S.said side) row x (layouts_of s.old)) }
 {
     s[layout_at(n, side) + (row as usize - 1)] = x;
 }

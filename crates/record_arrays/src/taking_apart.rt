@@ -9,23 +9,24 @@ ghost use Rattle.work_linked_trees.specs.Memory.{layouts_from};
 ghost use Rattle.work_trees.specs.Exchange.{LaidOut};
 
 use crate::places::{layout_at, rows_at};
+use crate::sides::SaysSide;
 use record_fields::copying::bytes_in;
 use record_fields::fields::links_at;
 use tanglegram::Side;
 
 // Fills a row array with a side's rows, the layout applied that is lent.
-fn lay_out(s: &[u8], n: u16, side: Side, lay: &[u8], rows: &mut [u16; 1023])
+fn lay_out<S: SaysSide>(s: &[u8], n: u16, side: S, lay: &[u8], rows: &mut [u16; 1023])
     requires { RecordOver s.now n × (length lay.now + 1 ≡ n) × (length rows.old ≡ 1023) }
-    ensures { LaidOut ((table_of s.now).tree side) n lay.now rows.new }
+    ensures { LaidOut ((table_of s.now).tree (S.said side)) n lay.now rows.new }
 {
     record_fields::fill_rows(s, rows_at(n, side), n, rows);
     work_trees::exchange(rows, lay);
 }
 
 // Fills a row array with a side's rows, its own layout applied.
-pub fn fill_side(s: &[u8], n: u16, side: Side, rows: &mut [u16; 1023])
+pub fn fill_side<S: SaysSide>(s: &[u8], n: u16, side: S, rows: &mut [u16; 1023])
     requires { RecordOver s.now n × (length rows.old ≡ 1023) }
-    ensures { LaidOut ((table_of s.now).tree side) n (layout (layouts_of s.now) side)
+    ensures { LaidOut ((table_of s.now).tree (S.said side)) n (layout (layouts_of s.now) (S.said side))
         rows.new }
 {
     let from = layout_at(n, side);
@@ -34,9 +35,9 @@ pub fn fill_side(s: &[u8], n: u16, side: Side, rows: &mut [u16; 1023])
 }
 
 // Copies a side's layout.
-pub fn fill_layout(s: &[u8], n: u16, side: Side, lay: &mut [u8])
+pub fn fill_layout<S: SaysSide>(s: &[u8], n: u16, side: S, lay: &mut [u8])
     requires { RecordOver s.now n × (length lay.old + 1 ≡ n) }
-    ensures { lay.new ≡ layout (layouts_of s.now) side }
+    ensures { lay.new ≡ layout (layouts_of s.now) (S.said side) }
 {
     let from = layout_at(n, side);
     let to = from + (n as usize - 1);
@@ -44,10 +45,10 @@ pub fn fill_layout(s: &[u8], n: u16, side: Side, lay: &mut [u8])
 }
 
 // Writes a side's present order to an array's first places.
-pub fn side_order(s: &[u8], n: u16, side: Side, out: &mut [u16; 512])
+pub fn side_order<S: SaysSide>(s: &[u8], n: u16, side: S, out: &mut [u16; 512])
     requires { RecordOver s.now n × (length out.old ≡ 512) }
     ensures { out.new
-        ≡ order_of (table_of s.now) (layouts_of s.now) side ++ drop n out.old }
+        ≡ order_of (table_of s.now) (layouts_of s.now) (S.said side) ++ drop n out.old }
 {
     let mut rows = [0u16; 1023];
     fill_side(s, n, side, &mut rows);

@@ -4,4 +4,5 @@
 mod links;
 mod testing;
 
-pub use testing::{contents, test_parts};
+pub use links::one_to_one;
+pub use testing::{contents, is_layout, test_parts};

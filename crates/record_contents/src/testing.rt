@@ -14,7 +14,7 @@ use record_fields::refusal::Refusal;
 use work_tree_rule::{Numbers, bad_row};
 
 // Whether no byte is above 3.
-fn is_layout(bytes: &[u8]) -> bool
+pub fn is_layout(bytes: &[u8]) -> bool
     ensures { result ≡ is_layout bytes.now }
 {
     bytes.iter().all(|x| *x <= 3)

@@ -5,15 +5,14 @@ ghost use Rattle.record_fields.specs.Meaning.{table_of};
 ghost use Rattle.record_arrays.specs.Sides.{RecordOver};
 ghost use Rattle.record_orders.specs.Proposed.{is_order, OrderRead};
 
-use record_arrays::rows_at;
+use record_arrays::{SaysSide, rows_at};
 use record_fields::copying::copied;
-use tanglegram::Side;
 
 // Whether the first n entries of a lent order are an order of a side. If it has as many, `lay` becomes the layout that
 // they show, no row pinned.
-pub fn read_order(s: &[u8], n: u16, side: Side, xs: &[u16], lay: &mut [u8]) -> bool
+pub fn read_order<S: SaysSide>(s: &[u8], n: u16, side: S, xs: &[u16], lay: &mut [u8]) -> bool
     requires { RecordOver s.now n × (length lay.old + 1 ≡ n) }
-    ensures { OrderRead s.now n side xs.now lay.old result lay.new }
+    ensures { OrderRead s.now n (S.said side) xs.now lay.old result lay.new }
 {
     let k = n as usize;
     if xs.len() < k {
@@ -27,9 +26,9 @@ pub fn read_order(s: &[u8], n: u16, side: Side, xs: &[u16], lay: &mut [u8]) -> b
 }
 
 // Whether the first n entries of a lent order are an order of a side.
-pub fn is_order(s: &[u8], n: u16, side: Side, xs: &[u16]) -> bool
+pub fn is_order<S: SaysSide>(s: &[u8], n: u16, side: S, xs: &[u16]) -> bool
     requires { RecordOver s.now n }
-    ensures { result ≡ is_order n ((table_of s.now).tree side) xs.now }
+    ensures { result ≡ is_order n ((table_of s.now).tree (S.said side)) xs.now }
 {
     let m = n as usize - 1;
     let mut lay = [0u8; 512];

@@ -5,16 +5,18 @@ use Rattle.record_arrays.proofs.OneRow.{row_within, row_stored}
 use Rattle.record_arrays.proofs.rows.put_row_byte.Goals as goal
 
 pub overflow_add-s : goal.overflow_add-s
-overflow_add-s c =
-    let h = layout-within _ _ c.requires.record_over c.args.side in
+overflow_add-s g c =
+    let h = layout-within _ _ c.requires.record_over (g.S.SaysSide.said c.args.side) in
     omega (arith, c.layout_at.ensures, c.requires.le_row)
 
 pub bounds-s-layout_at : goal.bounds-s-layout_at
-bounds-s-layout_at c =
+bounds-s-layout_at g c =
     let e = c.layout_at.ensures in
-    row_within _ _ c.requires.record_over c.args.side c.args.row c.requires.le_row.0 c.requires.le_row.1 e refl
+    let row = c.requires.le_row in
+    row_within _ _ c.requires.record_over (g.S.SaysSide.said c.args.side) c.args.row row.0 row.1 e refl
 
 pub returns : goal.returns
-returns c =
+returns g c =
     let e = c.layout_at.ensures in
-    row_stored _ _ c.requires.record_over c.args.side c.args.row c.requires.le_row.0 c.requires.le_row.1 e refl c.args.x
+    let row = c.requires.le_row in
+    row_stored _ _ c.requires.record_over (g.S.SaysSide.said c.args.side) c.args.row row.0 row.1 e refl c.args.x

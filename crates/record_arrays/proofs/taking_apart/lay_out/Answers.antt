@@ -4,17 +4,17 @@ use Rattle.record_arrays.proofs.AsItStands.{rows-within, filled-size, filled-lai
 use Rattle.record_arrays.proofs.taking_apart.lay_out.Goals as goal
 
 pub fill_rows-requires : goal.fill_rows-requires
-fill_rows-requires c =
-    let g = c.requires.0 in
-    (g.sized.some, g.sized.most, rw c.rows_at.ensures (rows-within _ _ g c.args.side), c.requires.2)
+fill_rows-requires g c =
+    let over = c.requires.0 in
+    (over.sized.some, over.sized.most, rw c.rows_at.ensures (rows-within _ _ over (g.S.SaysSide.said c.args.side)), c.requires.2)
 
 pub exchange-requires : goal.exchange-requires
-exchange-requires c =
-    let g = c.requires.0 in
-    let k = filled-size _ _ g c.args.side _ _ c.requires.2 _ c.rows_at.ensures c.fill_rows.ensures in
-    let most = g.sized.most in record { rows_bound = omega arith; lay_len = omega (arith, c.requires.1) }
+exchange-requires g c =
+    let over = c.requires.0 in
+    let k = filled-size _ _ over (g.S.SaysSide.said c.args.side) _ _ c.requires.2 _ c.rows_at.ensures c.fill_rows.ensures in
+    let most = over.sized.most in record { rows_bound = omega arith; lay_len = omega (arith, c.requires.1) }
 
 pub returns : goal.returns
-returns c =
-    filled-laid _ _ c.requires.0 c.args.side _ _ c.requires.2 _ c.rows_at.ensures c.fill_rows.ensures _ _
+returns g c =
+    filled-laid _ _ c.requires.0 (g.S.SaysSide.said c.args.side) _ _ c.requires.2 _ c.rows_at.ensures c.fill_rows.ensures _ _
     c.requires.1 c.exchange.ensures

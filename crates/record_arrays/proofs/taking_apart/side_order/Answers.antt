@@ -4,14 +4,14 @@ use Rattle.record_arrays.proofs.Apart.{order-shown}
 use Rattle.record_arrays.proofs.taking_apart.side_order.Goals as goal
 
 pub count_leaves-requires : goal.count_leaves-requires
-count_leaves-requires c = (c.fill_side.ensures.good, refl)
+count_leaves-requires g c = (c.fill_side.ensures.good, refl)
 
 pub leaf_order-requires : goal.leaf_order-requires
-leaf_order-requires c = record {
+leaf_order-requires g c = record {
   good_rows = (c.fill_side.ensures.good, c.count_leaves.ensures);
   out_len = c.requires.1;
 }
 
 pub returns : goal.returns
-returns c =
-    c.leaf_order.ensures ∙ order-shown _ _ c.requires.0 c.args.side _ _ c.fill_side.ensures
+returns g c =
+    c.leaf_order.ensures ∙ order-shown _ _ c.requires.0 (g.S.SaysSide.said c.args.side) _ _ c.fill_side.ensures

@@ -6,26 +6,26 @@ use Rattle.record_orders.proofs.Proposals.{read_short, matched}
 use Rattle.record_orders.proofs.proposed.read_order.Goals as goal
 
 pub returns-then-xs-k : goal.returns-then-xs-k
-returns-then-xs-k c = read_short _ _ c.requires.0 c.args.side _ _ c.if-xs-k.true
+returns-then-xs-k g c = read_short _ _ c.requires.0 (g.S.SaysSide.said c.args.side) _ _ c.if-xs-k.true
 
 pub slice_bounds-copied-end : goal.slice_bounds-copied-end
-slice_bounds-copied-end c = sym (length-take-le _ _ (omega arith))
+slice_bounds-copied-end g c = sym (length-take-le _ _ (omega arith))
 
 pub copied-requires : goal.copied-requires
-copied-requires c =
+copied-requires g c =
     let long = length-take-le c.args.n c.args.xs.now (omega arith) in omega (arith, c.requires.0.sized.most)
 
 pub fill_rows-requires : goal.fill_rows-requires
-fill_rows-requires c =
-    let g = c.requires.0 in
-    (g.sized.some, g.sized.most, rw c.rows_at.ensures (rows-within _ _ g c.args.side), refl)
+fill_rows-requires g c =
+    let over = c.requires.0 in
+    (over.sized.some, over.sized.most, rw c.rows_at.ensures (rows-within _ _ over (g.S.SaysSide.said c.args.side)), refl)
 
 pub match_layout-requires : goal.match_layout-requires
-match_layout-requires c =
-    let g = c.requires.0 in
-    let side = c.args.side in
-    let good = filled-good _ _ g side _ _ refl _ c.rows_at.ensures c.fill_rows.ensures in
-    let size = filled-size _ _ g side _ _ refl _ c.rows_at.ensures c.fill_rows.ensures in
+match_layout-requires g c =
+    let over = c.requires.0 in
+    let side = g.S.SaysSide.said c.args.side in
+    let good = filled-good _ _ over side _ _ refl _ c.rows_at.ensures c.fill_rows.ensures in
+    let size = filled-size _ _ over side _ _ refl _ c.rows_at.ensures c.fill_rows.ensures in
     record {
       good_rows = good;
       xs_len = ap length c.copied.ensures ∙ simp length-sets;
@@ -33,9 +33,9 @@ match_layout-requires c =
     }
 
 pub returns : goal.returns
-returns c =
-    let g = c.requires.0 in
-    let side = c.args.side in
-    let size = filled-size _ _ g side _ _ refl _ c.rows_at.ensures c.fill_rows.ensures in
-    let tree = filled-tree _ _ g side _ _ refl _ c.rows_at.ensures c.fill_rows.ensures in
-    matched _ _ g side _ _ _ refl c.if-xs-k.false c.copied.ensures _ _ _ _ size tree c.match_layout.ensures
+returns g c =
+    let over = c.requires.0 in
+    let side = g.S.SaysSide.said c.args.side in
+    let size = filled-size _ _ over side _ _ refl _ c.rows_at.ensures c.fill_rows.ensures in
+    let tree = filled-tree _ _ over side _ _ refl _ c.rows_at.ensures c.fill_rows.ensures in
+    matched _ _ over side _ _ _ refl c.if-xs-k.false c.copied.ensures _ _ _ _ size tree c.match_layout.ensures
