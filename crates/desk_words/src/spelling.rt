@@ -3,7 +3,6 @@ ghost use Rattle.std.specs.Prelude.{◌≡◌, ◌+◌, ◌*◌, ◌≤◌, leng
 ghost use Rattle.desk_words.specs.Bytes.{hex_digit, spelling};
 
 use record_fields::refusal::Refusal;
-use std::fmt::Display;
 use std::io;
 use std::io::Stdout;
 
@@ -87,7 +86,7 @@ pub fn done(stdout: Stdout, answered: Result<(), Refusal>, s: &[u8]) -> io::Resu
 }
 
 // Numbers with commas between, or a dash for none.
-pub fn list<T: Copy + Display>(stdout: Stdout, xs: &[T]) -> io::Result<()> {
+pub fn list<T: Copy + Into<i64>>(stdout: Stdout, xs: &[T]) -> io::Result<()> {
     let Some((first, rest)) = xs.split_first() else {
         return printing::byte(stdout, b'-');
     };
@@ -100,7 +99,7 @@ pub fn list<T: Copy + Display>(stdout: Stdout, xs: &[T]) -> io::Result<()> {
 }
 
 // A space and such a list.
-pub fn next_list<T: Copy + Display>(stdout: Stdout, xs: &[T]) -> io::Result<()> {
+pub fn next_list<T: Copy + Into<i64>>(stdout: Stdout, xs: &[T]) -> io::Result<()> {
     printing::byte(stdout, b' ')?;
     list(stdout, xs)
 }
