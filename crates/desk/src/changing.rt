@@ -5,18 +5,14 @@ use desk_words::numbers::{number, number8, number16};
 use desk_words::room;
 use desk_words::spelling::{answer, done, next_bytes};
 use desk_words::words::word;
-use record_fields::refusal::Refusal;
 use std::io;
 use std::io::Stdout;
-use work_freeing::Sums;
-use work_turns::Taken;
+use tangle::answers::{TangleFree, TangleRefusal, TangleRun};
 
 // NUMBER BEFORE AFTER RECORD
-fn freed(stdout: Stdout, answered: Result<Sums, Refusal>, s: &[u8]) -> io::Result<()> {
-    match answered {
-        Ok(sums) => answer(stdout, None, &[sums.before, sums.after])?,
-        Err(refusal) => answer(stdout, Some(refusal), &[0; 2])?,
-    }
+fn freed(stdout: Stdout, answered: TangleFree, s: &[u8]) -> io::Result<()> {
+    let numbers = [answered.before, answered.after];
+    answer(stdout, answered.refusal, answered.row, &numbers)?;
     next_bytes(stdout, s)?;
     printing::end(stdout)
 }
@@ -24,23 +20,19 @@ fn freed(stdout: Stdout, answered: Result<Sums, Refusal>, s: &[u8]) -> io::Resul
 // free RECORD SIDE -> NUMBER BEFORE AFTER RECORD
 pub fn free(stdout: Stdout, line: &[u8], s: &mut [u8]) -> Option<io::Result<()>> {
     let side = number16(word(line, 2))?;
-    let answered = calls_turns::free(s, side);
+    let answered = TangleFree::from(calls_turns::free(s, side));
     Some(freed(stdout, answered, s))
 }
 
 // NUMBER FIRST LAST TURNS SETTLED RECORD
-fn ran(stdout: Stdout, answered: Result<Taken, Refusal>, s: &[u8]) -> io::Result<()> {
-    match answered {
-        Ok(taken) => {
-            let settled = u32::from(taken.settled);
-            answer(
-                stdout,
-                None,
-                &[taken.first, taken.last, taken.turns, settled],
-            )?
-        }
-        Err(refusal) => answer(stdout, Some(refusal), &[0; 4])?,
-    }
+fn ran(stdout: Stdout, answered: TangleRun, s: &[u8]) -> io::Result<()> {
+    let numbers = [
+        answered.first,
+        answered.last,
+        answered.turns,
+        answered.settled,
+    ];
+    answer(stdout, answered.refusal, answered.row, &numbers)?;
     next_bytes(stdout, s)?;
     printing::end(stdout)
 }
@@ -48,7 +40,7 @@ fn ran(stdout: Stdout, answered: Result<Taken, Refusal>, s: &[u8]) -> io::Result
 // run RECORD ALLOWANCE -> NUMBER FIRST LAST TURNS SETTLED RECORD
 pub fn run(stdout: Stdout, line: &[u8], s: &mut [u8]) -> Option<io::Result<()>> {
     let allowance = number(word(line, 2), 0xffff_ffff)?;
-    let answered = calls_turns::run(s, allowance);
+    let answered = TangleRun::from(calls_turns::run(s, allowance));
     Some(ran(stdout, answered, s))
 }
 
@@ -56,15 +48,15 @@ pub fn run(stdout: Stdout, line: &[u8], s: &mut [u8]) -> Option<io::Result<()>> 
 pub fn hands(stdout: Stdout, line: &[u8], s: &mut [u8]) -> Option<io::Result<()>> {
     let mut list = room::for_hands();
     let n = hands_in(word(line, 2), &mut list)?;
-    let answered = calls_hands::hands(s, &list[..n]);
-    Some(done(stdout, answered, s))
+    let answered = TangleRefusal::from(calls_hands::hands(s, &list[..n]));
+    Some(done(stdout, answered.refusal, answered.row, s))
 }
 
 // hold RECORD LETTER -> NUMBER RECORD
 pub fn hold(stdout: Stdout, line: &[u8], s: &mut [u8]) -> Option<io::Result<()>> {
     let letter = number8(word(line, 2))?;
-    let answered = record::set_hold(s, letter);
-    Some(done(stdout, answered, s))
+    let answered = TangleRefusal::from(record::set_hold(s, letter));
+    Some(done(stdout, answered.refusal, answered.row, s))
 }
 
 // pin RECORD SIDE ROW FLAG -> NUMBER RECORD
@@ -72,6 +64,6 @@ pub fn pin(stdout: Stdout, line: &[u8], s: &mut [u8]) -> Option<io::Result<()>> 
     let side = number16(word(line, 2))?;
     let row = number16(word(line, 3))?;
     let flag = number(word(line, 4), 1)?;
-    let answered = calls_pins::pin(s, side, row, flag == 1);
-    Some(done(stdout, answered, s))
+    let answered = TangleRefusal::from(calls_pins::pin(s, side, row, flag == 1));
+    Some(done(stdout, answered.refusal, answered.row, s))
 }

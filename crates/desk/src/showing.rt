@@ -3,30 +3,29 @@ ghost use Rattle.std.specs.Prelude.{cond, ◌≡◌};
 ghost use Rattle.std.specs.Float.{binary64};
 ghost use Rattle.std.specs.Float.Ieee.{eq, to_bits};
 
-use calls_show::answers::Measured;
 use desk_words::lists::list as list_in;
 use desk_words::numbers::number16;
 use desk_words::spelling::{answer, list, next_bits, next_list};
 use desk_words::words::word;
-use record_fields::refusal::Refusal;
 use std::io;
 use std::io::Stdout;
+use tangle::answers::{TangleCount, TangleRefusal, TangleSquaredEntanglement, TangleThousandths};
 
 // NUMBER, which for 7 and 8 is followed by the row, here and in every answer.
-fn only(stdout: Stdout, answered: Result<(), Refusal>) -> io::Result<()> {
-    answer(stdout, answered.err(), &[])?;
+fn only(stdout: Stdout, answered: TangleRefusal) -> io::Result<()> {
+    answer(stdout, answered.refusal, answered.row, &[])?;
     printing::end(stdout)
 }
 
 // check RECORD -> NUMBER
 pub fn check(stdout: Stdout, s: &[u8]) -> io::Result<()> {
-    only(stdout, record::check(s))
+    only(stdout, TangleRefusal::from(record::check(s)))
 }
 
 // NUMBER OUT
 fn ordered(stdout: Stdout, s: &[u8], side: u16, xs: &mut [u16]) -> io::Result<()> {
-    let answered = calls_show::order(s, side, xs);
-    answer(stdout, answered.err(), &[])?;
+    let answered = TangleRefusal::from(calls_show::order(s, side, xs));
+    answer(stdout, answered.refusal, answered.row, &[])?;
     next_list(stdout, xs)?;
     printing::end(stdout)
 }
@@ -39,28 +38,19 @@ pub fn order(stdout: Stdout, line: &[u8], s: &[u8], xs: &mut [u16]) -> Option<io
 }
 
 // NUMBER COUNT
-fn counted(stdout: Stdout, answered: Result<u32, Refusal>) -> io::Result<()> {
-    match answered {
-        Ok(count) => answer(stdout, None, &[count])?,
-        Err(refusal) => answer(stdout, Some(refusal), &[0])?,
-    }
+fn counted(stdout: Stdout, answered: TangleCount) -> io::Result<()> {
+    answer(stdout, answered.refusal, answered.row, &[answered.count])?;
     printing::end(stdout)
 }
 
 // count RECORD -> NUMBER COUNT, by seen places
 pub fn count(stdout: Stdout, s: &[u8]) -> io::Result<()> {
-    counted(stdout, calls_show::count(s))
+    counted(stdout, TangleCount::from(calls_show::count(s)))
 }
 
 // pairs RECORD -> NUMBER COUNT, pair by pair
 pub fn pairs(stdout: Stdout, s: &[u8]) -> io::Result<()> {
-    counted(stdout, calls_show::pairs(s))
-}
-
-// NUMBER 0 0 none
-fn no_squared(stdout: Stdout, refused: Option<Refusal>) -> io::Result<()> {
-    answer(stdout, refused, &[0; 2])?;
-    printing::text(stdout, b" none\n")
+    counted(stdout, TangleCount::from(calls_show::pairs(s)))
 }
 
 // A ratio's bits; 0 for what is no number and so not equal to itself, which no ratio is.
@@ -73,41 +63,43 @@ fn bits(x: f64) -> u64
     0
 }
 
-// 0 D W RATIO
-fn ratio(stdout: Stdout, measured: Measured) -> io::Result<()> {
-    answer(stdout, None, &[measured.displacement, measured.worst])?;
-    next_bits(stdout, bits(measured.ratio))?;
+// NUMBER D W RATIO, or NUMBER D W none
+fn squared(stdout: Stdout, answered: TangleSquaredEntanglement) -> io::Result<()> {
+    let numbers = [answered.displacement, answered.worst];
+    answer(stdout, answered.refusal, answered.row, &numbers)?;
+    if answered.has_ratio == 0 {
+        return printing::text(stdout, b" none\n");
+    }
+    next_bits(stdout, bits(answered.ratio))?;
     printing::end(stdout)
 }
 
 // squared_entanglement RECORD -> NUMBER D W RATIO
 pub fn squared_entanglement(stdout: Stdout, s: &[u8]) -> io::Result<()> {
-    match calls_show::squared_entanglement(s) {
-        Ok(Some(measured)) => ratio(stdout, measured),
-        Ok(None) => no_squared(stdout, None),
-        Err(refusal) => no_squared(stdout, Some(refusal)),
+    squared(
+        stdout,
+        TangleSquaredEntanglement::from(calls_show::squared_entanglement(s)),
+    )
+}
+
+// NUMBER K, or NUMBER none
+fn in_thousandths(stdout: Stdout, answered: TangleThousandths) -> io::Result<()> {
+    if answered.has_ratio == 0 {
+        answer(stdout, answered.refusal, answered.row, &[])?;
+        return printing::text(stdout, b" none\n");
     }
-}
-
-// NUMBER none
-fn no_thousandths(stdout: Stdout, refused: Option<Refusal>) -> io::Result<()> {
-    answer(stdout, refused, &[])?;
-    printing::text(stdout, b" none\n")
-}
-
-// 0 K
-fn in_thousandths(stdout: Stdout, k: u32) -> io::Result<()> {
-    answer(stdout, None, &[k])?;
+    answer(
+        stdout,
+        answered.refusal,
+        answered.row,
+        &[answered.thousandths],
+    )?;
     printing::end(stdout)
 }
 
 // thousandths RECORD -> NUMBER K
 pub fn thousandths(stdout: Stdout, s: &[u8]) -> io::Result<()> {
-    match calls_show::thousandths(s) {
-        Ok(Some(k)) => in_thousandths(stdout, k),
-        Ok(None) => no_thousandths(stdout, None),
-        Err(refusal) => no_thousandths(stdout, Some(refusal)),
-    }
+    in_thousandths(stdout, TangleThousandths::from(calls_show::thousandths(s)))
 }
 
 // What a line says that compares two orders: the side, and the orders, which are put one behind the other into xs; none
@@ -140,6 +132,6 @@ pub fn better_check(
     xs: &mut [u16],
 ) -> Option<io::Result<()>> {
     let (side, first, second) = orders(line, xs)?;
-    let answered = calls_better::better_check(s, side, first, second);
+    let answered = TangleRefusal::from(calls_better::better_check(s, side, first, second));
     Some(only(stdout, answered))
 }

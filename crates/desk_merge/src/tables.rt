@@ -7,11 +7,12 @@ use desk_words::spelling::{answer, next_list};
 use desk_words::words::word;
 use std::io;
 use std::io::Stdout;
+use tangle::answers::TangleRefusal;
 
 // NUMBER OUT
 fn read(stdout: Stdout, n: u16, rows: &[i32], out: &mut [u16]) -> io::Result<()> {
-    let answered = calls_merge::merge_read(n, rows, out);
-    answer(stdout, answered.err(), &[])?;
+    let answered = TangleRefusal::from(calls_merge::merge_read(n, rows, out));
+    answer(stdout, answered.refusal, answered.row, &[])?;
     next_list(stdout, out)?;
     printing::end(stdout)
 }
@@ -27,8 +28,8 @@ pub fn merge_read(stdout: Stdout, line: &[u8], xs: &mut [u16]) -> Option<io::Res
 
 // NUMBER OUT
 fn written(stdout: Stdout, s: &[u8], side: u16, out: &mut [i32]) -> io::Result<()> {
-    let answered = calls_merge::merge_write(s, side, out);
-    answer(stdout, answered.err(), &[])?;
+    let answered = TangleRefusal::from(calls_merge::merge_write(s, side, out));
+    answer(stdout, answered.refusal, answered.row, &[])?;
     next_list(stdout, out)?;
     printing::end(stdout)
 }

@@ -6,22 +6,14 @@ use desk_words::numbers::number16;
 use desk_words::room;
 use desk_words::spelling::{answer, next_bytes, next_list};
 use desk_words::words::word;
-use record_fields::refusal::Refusal;
 use std::io;
 use std::io::Stdout;
-
-// The refusal's number, and n or the length.
-fn numbered(stdout: Stdout, answered: Result<u16, Refusal>) -> io::Result<()> {
-    match answered {
-        Ok(x) => answer(stdout, None, &[u32::from(x)]),
-        Err(refusal) => answer(stdout, Some(refusal), &[0]),
-    }
-}
+use tangle::answers::{TangleNewickRead, TangleNewickWrite};
 
 // NUMBER N OUT
 fn read(stdout: Stdout, text: &[u8], out: &mut [u16]) -> io::Result<()> {
-    let answered = calls_newick::newick_read(text, out);
-    numbered(stdout, answered)?;
+    let answered = TangleNewickRead::from(calls_newick::newick_read(text, out));
+    answer(stdout, answered.refusal, answered.row, &[answered.n])?;
     next_list(stdout, out)?;
     printing::end(stdout)
 }
@@ -39,8 +31,8 @@ pub fn newick_read(
 
 // NUMBER LENGTH OUT
 fn written(stdout: Stdout, s: &[u8], side: u16, out: &mut [u8]) -> io::Result<()> {
-    let answered = calls_newick::newick_write(s, side, out);
-    numbered(stdout, answered)?;
+    let answered = TangleNewickWrite::from(calls_newick::newick_write(s, side, out));
+    answer(stdout, answered.refusal, answered.row, &[answered.length])?;
     next_bytes(stdout, out)?;
     printing::end(stdout)
 }

@@ -6,20 +6,18 @@ use desk_words::numbers::{number8, number16};
 use desk_words::room;
 use desk_words::spelling::{answer, done, next_bytes, next_list};
 use desk_words::words::word;
-use record::Header;
-use record_fields::refusal::Refusal;
 use std::io;
 use std::io::Stdout;
+use tangle::answers::{TangleRefusal, TangleUnpack};
 
 // NUMBER HOLD N
-fn heading(stdout: Stdout, answered: Result<Header, Refusal>) -> io::Result<()> {
-    match answered {
-        Ok(header) => {
-            let numbers = [u32::from(header.hold.letter()), u32::from(header.n)];
-            answer(stdout, None, &numbers)
-        }
-        Err(refusal) => answer(stdout, Some(refusal), &[0; 2]),
-    }
+fn heading(stdout: Stdout, answered: TangleUnpack) -> io::Result<()> {
+    answer(
+        stdout,
+        answered.refusal,
+        answered.row,
+        &[answered.hold, answered.n],
+    )
 }
 
 // unpack RECORD LEFT RIGHT LINKS LAYOUT LAYOUT -> NUMBER HOLD N LEFT RIGHT LINKS LAYOUT LAYOUT. The left list goes into
@@ -56,7 +54,7 @@ fn unpack_into(
 ) -> io::Result<()> {
     heading(
         stdout,
-        record_unpacking::unpack(s, left, right, links, leftlay, rightlay),
+        TangleUnpack::from(record_unpacking::unpack(s, left, right, links, leftlay, rightlay)),
     )?;
     next_list(stdout, left)?;
     next_list(stdout, right)?;
@@ -102,7 +100,7 @@ fn pack_layouts(
     let a = bytes(word(line, 6), &mut leftlay)?;
     let mut rightlay = room::for_bytes();
     let b = bytes(word(line, 7), &mut rightlay)?;
-    let packed = record_packing::pack(
+    let packed = TangleRefusal::from(record_packing::pack(
         hold,
         n,
         left,
@@ -111,6 +109,6 @@ fn pack_layouts(
         &leftlay[..a],
         &rightlay[..b],
         out,
-    );
-    Some(done(stdout, packed, out))
+    ));
+    Some(done(stdout, packed.refusal, packed.row, out))
 }

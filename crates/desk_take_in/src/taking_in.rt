@@ -8,13 +8,13 @@ use desk_words::spelling::{answer, next_bytes};
 use desk_words::words::word;
 use std::io;
 use std::io::Stdout;
+use tangle::answers::TangleTakeIn;
 
 // NUMBER COUNT LEAST LAYOUT
 fn taken(stdout: Stdout, s: &[u8], side: u16, xs: &[u16], out: &mut [u8]) -> io::Result<()> {
-    match calls_take_in::take_in(s, side, xs, out) {
-        Ok(weight) => answer(stdout, None, &[weight.count, u32::from(weight.least)])?,
-        Err(refusal) => answer(stdout, Some(refusal), &[0; 2])?,
-    }
+    let answered = TangleTakeIn::from(calls_take_in::take_in(s, side, xs, out));
+    let numbers = [answered.count, answered.least];
+    answer(stdout, answered.refusal, answered.row, &numbers)?;
     next_bytes(stdout, out)?;
     printing::end(stdout)
 }

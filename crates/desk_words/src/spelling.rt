@@ -2,8 +2,6 @@
 ghost use Rattle.std.specs.Prelude.{◌≡◌, ◌+◌, ◌*◌, ◌≤◌, length, take, drop};
 ghost use Rattle.desk_words.specs.Bytes.{hex_digit, spelling};
 
-use record_fields::refusal::Refusal;
-use std::fmt::Display;
 use std::io;
 use std::io::Stdout;
 
@@ -58,36 +56,27 @@ pub fn next_bytes(stdout: Stdout, s: &[u8]) -> io::Result<()> {
     Ok(())
 }
 
-// What a call answers in numbers: its refusal's, 0 for none, and the row if the refusal has one; then the others.
-pub fn answer(stdout: Stdout, refused: Option<Refusal>, others: &[u32]) -> io::Result<()> {
-    let Some(refusal) = refused else {
-        printing::number(stdout, 0)?;
-        return next_numbers(stdout, others);
-    };
-    printing::number(stdout, refusal.number())?;
-    if refusal.row() != 0 {
-        printing::next(stdout, refusal.row())?;
+// What a call answers in numbers: its refusal's, and the row if it isn't 0; then the others.
+pub fn answer(stdout: Stdout, refusal: u32, row: u32, others: &[u32]) -> io::Result<()> {
+    printing::number(stdout, refusal)?;
+    if row != 0 {
+        printing::next(stdout, row)?;
     }
-    next_numbers(stdout, others)
-}
-
-// Numbers, a space before each.
-fn next_numbers(stdout: Stdout, numbers: &[u32]) -> io::Result<()> {
-    for x in numbers {
+    for x in others {
         printing::next(stdout, *x)?;
     }
     Ok(())
 }
 
 // The same of a call that answers its refusal alone, then bytes and a line feed.
-pub fn done(stdout: Stdout, answered: Result<(), Refusal>, s: &[u8]) -> io::Result<()> {
-    answer(stdout, answered.err(), &[])?;
+pub fn done(stdout: Stdout, refusal: u32, row: u32, s: &[u8]) -> io::Result<()> {
+    answer(stdout, refusal, row, &[])?;
     next_bytes(stdout, s)?;
     printing::end(stdout)
 }
 
 // Numbers with commas between, or a dash for none.
-pub fn list<T: Copy + Display>(stdout: Stdout, xs: &[T]) -> io::Result<()> {
+pub fn list<T: Copy + Into<i64>>(stdout: Stdout, xs: &[T]) -> io::Result<()> {
     let Some((first, rest)) = xs.split_first() else {
         return printing::byte(stdout, b'-');
     };
@@ -100,7 +89,7 @@ pub fn list<T: Copy + Display>(stdout: Stdout, xs: &[T]) -> io::Result<()> {
 }
 
 // A space and such a list.
-pub fn next_list<T: Copy + Display>(stdout: Stdout, xs: &[T]) -> io::Result<()> {
+pub fn next_list<T: Copy + Into<i64>>(stdout: Stdout, xs: &[T]) -> io::Result<()> {
     printing::byte(stdout, b' ')?;
     list(stdout, xs)
 }
