@@ -36,19 +36,8 @@ turn_and_back='define internal void @turn_and_back(ptr %s, i16 %n, i8 %side) noi
   ret void
 }'
 
-# The first byte of a part that is to be copied into, if it has one, written as 7.
-through_7='define internal void @through_7(ptr %p, i64 %n) noinline {
-  %none = icmp eq i64 %n, 0
-  br i1 %none, label %end, label %some
-some:
-  store volatile i8 7, ptr %p, align 1
-  br label %end
-end:
-  ret void
-}'
-
 # changed FUNCTION PATTERN LINES: standard input with these lines before the last line of that function that has the
-# pattern; POINTER in them is what that line stores to, PART the pointer and the length that it hands over first.
+# pattern; POINTER in them is what that line stores to.
 changed() {
   name="@\"$1\"(" pattern=$2 lines=$3 awk '
     BEGIN { name = ENVIRON["name"]; pattern = ENVIRON["pattern"]; lines = ENVIRON["lines"] }
@@ -59,8 +48,6 @@ changed() {
       if (!at) { print "changed: nothing to change in " name > "/dev/stderr"; exit 1 }
       if (match(line[at], /ptr %[a-z0-9]+, align/))
         gsub(/POINTER/, substr(line[at], RSTART + 4, RLENGTH - 11), lines)
-      if (match(line[at], /[(]ptr %[a-z0-9]+, i64 %[a-z0-9]+/))
-        gsub(/PART/, substr(line[at], RSTART + 1, RLENGTH - 1), lines)
       for (i = 1; i <= NR; i++) { if (i == at) print lines; print line[i] }
     }'
 }
@@ -72,13 +59,10 @@ with_text() { # NAME
   gcc "${strict[@]}" -std=c11 -static -o "$out/$1" host/reset/stepped.c "$out/$1.o"
 }
 
-{
-  changed record_fields::copying::bytes_in '^  call .*copy_from_slice' '  call void @through_7(PART)' \
-    < "$out/unchanged.ll" |
-    changed "$put_row_byte" '^  store i8 %' '  store volatile i8 7, ptr POINTER, align 1' |
-    changed record::hold::set_hold '^  store i8 %' '  store volatile i8 0, ptr POINTER, align 1'
-  echo "$through_7"
-} > "$out/through.ll"
+changed record_fields::copying::bytes_in '^  store i8 %' '  store volatile i8 7, ptr POINTER, align 1' \
+  < "$out/unchanged.ll" |
+  changed "$put_row_byte" '^  store i8 %' '  store volatile i8 7, ptr POINTER, align 1' |
+  changed record::hold::set_hold '^  store i8 %' '  store volatile i8 0, ptr POINTER, align 1' > "$out/through.ll"
 {
   changed record_arrays::putting_back::put_back '^  ret void' \
     $'  call void @turn_and_back(ptr %a0, i16 %a2, i8 0)\n  call void @turn_and_back(ptr %a0, i16 %a2, i8 1)' \
