@@ -7,7 +7,7 @@ use mathlib.Core.List.{List, [], ◌∷◌, ◌++◌}
 use native.Mathlib.Omega.{arith}
 use borrow.Author.Tests.{lt-ltb, le-ltb, eq-eqb, eqb-true, ltb-false}
 use lib.Dec.{eqb, ltb}
-use lib.ListN.{length, set, drop, length-append}
+use lib.ListN.{length, set, length-append}
 use lib.Seq.{sets}
 use Rattle.record_fields.specs.Letters.{letter_t, letter_g, letter_p}
 use Rattle.record_fields.specs.Fields.{version_at, hold_at, size_at}
@@ -120,14 +120,11 @@ sets_then : (vs ws l : List ℕ) (at next : ℕ) → at + length vs ≡ next →
 sets_then vs ws l at next e = sets-append vs ws l at ∙ ap (λ k. sets (sets l at vs) k ws) e
 
 -- the first eight bytes, stored from the first place on
-pub opening_stored : (h n : ℕ) (l : List ℕ) {o o' : List ℕ} → 8 ≤ length l →
-    o ≡ sets ((letter_t ∷ letter_g ∷ letter_p ∷ []) ++ drop 3 l) version_at (split (1 ∷ [])) →
+pub opening_stored : (h n : ℕ) (l : List ℕ) {o o' : List ℕ} →
+    o ≡ sets (sets l 0 (letter_t ∷ letter_g ∷ letter_p ∷ [])) version_at (split (1 ∷ [])) →
     o' ≡ sets (set o hold_at h) size_at (split (n ∷ [])) → o' ≡ sets l 0 (opening h n)
 unfolding split
-opening_stored h n l long e f =
-    let mark = letter_t ∷ letter_g ∷ letter_p ∷ [] in
-    let o = e ∙ ap (λ r. sets r version_at (split (1 ∷ []))) (sym (sets_front l mark (omega arith))) in
-    f ∙ ap (λ r. sets (set r hold_at h) size_at (split (n ∷ []))) o
+opening_stored h n l e f = f ∙ ap (λ r. sets (set r hold_at h) size_at (split (n ∷ []))) e
 
 -- stored part after part, each where the one before it ends
 pub stored : (h n : ℕ) (left right links left_layout right_layout : List ℕ) → Shaped n left right links left_layout right_layout →

@@ -115,7 +115,7 @@ fn write_opening(hold: Hold, n: u16, out: &mut [u8])
     requires { 8 ≤ length out.old }
     ensures { out.new ≡ sets out.old 0 (opening (letter_of hold) n) }
 {
-    out[..MARK_TGP.len()].copy_from_slice(&MARK_TGP);
+    bytes_in(&MARK_TGP, out, 0);
     number_in(VERSION_1, out, VERSION_AT);
     out[HOLD_AT] = hold.letter();
     number_in(n, out, SIZE_AT);

@@ -1,4 +1,4 @@
-use Rattle.std.proofs.Common.{ap, arith, length-set, refl, rules, take_all, ◌+◌, ◌∙◌}
+use Rattle.std.proofs.Common.{ap, arith, length-set, refl, take_all, ◌+◌, ◌∙◌}
 use lib.Seq.{sets}
 use Rattle.work_trees.proofs.Stores.{store_entry}
 use Rattle.record_fields.proofs.copying.bytes_in.Goals as goal

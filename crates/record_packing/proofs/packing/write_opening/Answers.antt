@@ -4,5 +4,5 @@ use Rattle.record_packing.proofs.packing.write_opening.Goals as goal
 
 pub returns : goal.returns
 returns c =
-    opening_stored _ c.args.n c.args.out.now c.requires (rw c.copy_from_slice.ensures.after at c.number_in.ensures)
+    opening_stored _ c.args.n c.args.out.now (rw c.bytes_in.ensures at c.number_in.ensures)
     (rw c.letter.ensures at c.number_in-2.ensures)
