@@ -63,13 +63,23 @@ fn bits(x: f64) -> u64
     0
 }
 
+// D W none, written at once, a space before each
+fn no_ratio(stdout: Stdout, displacement: u32, worst: u32) -> io::Result<()> {
+    let mut text = [0u8; 28];
+    let first = work_text::put_next(displacement, &mut text, 0);
+    let second = work_text::put_next(worst, &mut text, first);
+    let end = work_text::put(b" none\n", &mut text, second);
+    printing::text(stdout, &text[..end])
+}
+
 // NUMBER D W RATIO, or NUMBER D W none
 fn squared(stdout: Stdout, answered: TangleSquaredEntanglement) -> io::Result<()> {
+    if answered.has_ratio == 0 {
+        answer(stdout, answered.refusal, answered.row, &[])?;
+        return no_ratio(stdout, answered.displacement, answered.worst);
+    }
     let numbers = [answered.displacement, answered.worst];
     answer(stdout, answered.refusal, answered.row, &numbers)?;
-    if answered.has_ratio == 0 {
-        return printing::text(stdout, b" none\n");
-    }
     next_bits(stdout, bits(answered.ratio))?;
     printing::end(stdout)
 }
