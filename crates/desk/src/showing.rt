@@ -1,7 +1,8 @@
 // The calls that change no record: check, order, count, pairs, squared_entanglement, thousandths, better and its check.
-ghost use Rattle.std.specs.Prelude.{cond, ◌≡◌};
+ghost use Rattle.std.specs.Prelude.{MatchOption, cond, length, ◌≡◌};
 ghost use Rattle.std.specs.Float.{binary64};
 ghost use Rattle.std.specs.Float.Ieee.{eq, to_bits};
+ghost use Rattle.desk.specs.Orders.{orders_in};
 
 use desk_words::lists::list as list_in;
 use desk_words::numbers::number16;
@@ -63,13 +64,23 @@ fn bits(x: f64) -> u64
     0
 }
 
+// D W none, written at once, a space before each
+fn no_ratio(stdout: Stdout, displacement: u32, worst: u32) -> io::Result<()> {
+    let mut text = [0u8; 28];
+    let first = work_text::put_next(displacement, &mut text, 0);
+    let second = work_text::put_next(worst, &mut text, first);
+    let end = work_text::put(b" none\n", &mut text, second);
+    printing::text(stdout, &text[..end])
+}
+
 // NUMBER D W RATIO, or NUMBER D W none
 fn squared(stdout: Stdout, answered: TangleSquaredEntanglement) -> io::Result<()> {
+    if answered.has_ratio == 0 {
+        answer(stdout, answered.refusal, answered.row, &[])?;
+        return no_ratio(stdout, answered.displacement, answered.worst);
+    }
     let numbers = [answered.displacement, answered.worst];
     answer(stdout, answered.refusal, answered.row, &numbers)?;
-    if answered.has_ratio == 0 {
-        return printing::text(stdout, b" none\n");
-    }
     next_bits(stdout, bits(answered.ratio))?;
     printing::end(stdout)
 }
@@ -104,7 +115,12 @@ pub fn thousandths(stdout: Stdout, s: &[u8]) -> io::Result<()> {
 
 // What a line says that compares two orders: the side, and the orders, which are put one behind the other into xs; none
 // for a line that is no call.
-fn orders<'a>(line: &[u8], xs: &'a mut [u16]) -> Option<(u16, &'a [u16], &'a [u16])> {
+fn orders<'a>(line: &[u8], xs: &'a mut [u16]) -> Option<(u16, &'a [u16], &'a [u16])>
+    ensures { MatchOption
+        result
+        (orders_in line.now (length xs.old) ≡ None)
+        (λ o. orders_in line.now (length xs.old) ≡ Some (record { side = o.0; first = o.1.now; second = o.2.now })) }
+{
     let side = number16(word(line, 2))?;
     let a = list_in(word(line, 3), xs)?;
     let b = list_in(word(line, 4), &mut xs[a..])?;

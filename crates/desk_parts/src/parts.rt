@@ -86,6 +86,8 @@ pub fn pack(stdout: Stdout, line: &[u8], out: &mut [u8], xs: &mut [u16]) -> Opti
     )
 }
 
+// Inlined for the stack's sake: as a function of its own it puts its layouts on top of the lists in `make`.
+#[inline(always)]
 fn pack_layouts(
     stdout: Stdout,
     line: &[u8],
