@@ -1,5 +1,5 @@
 // Bytes of a text, and the digits in it.
-ghost use Rattle.std.specs.Prelude.{◌≡◌, ℕ, ◌+◌, ◌*◌, ◌-◌, ◌≤◌, IfSome, drop, slice_get};
+ghost use Rattle.std.specs.Prelude.{◌≡◌, ◌+◌, ◌*◌, ◌-◌, ◌≤◌, drop, slice_get};
 ghost use Rattle.newick.specs.Reading.{length_in};
 ghost use Rattle.work_newick_reading.specs.Text.{Place};
 ghost use Rattle.work_newick_reading.specs.Reads.{Behind, DigitsEnd, LengthEnds, leaf_of};
@@ -18,13 +18,23 @@ pub struct DigitsRead {
     pub leaf: Option<u16>,
 }
 
-// A leaf number with one digit more, if it is at most 512.
-fn with_digit(leaf: Option<u16>, digit: u8) -> Option<u16>
-    requires { IfSome leaf (λ x. x ≤ 512) × (48 ≤ digit) × (digit ≤ 57) }
-    ensures { (v : ℕ) → leaf ≡ leaf_of v → result ≡ leaf_of (10 * v + (digit - 48)) }
+// A number with one digit more; one that is above 512 stays so, whatever follows.
+fn with_digit(x: u16, digit: u8) -> u16
+    requires { (48 ≤ digit) × (digit ≤ 57) }
+    ensures value { x ≤ 512 → result ≡ 10 * x + (digit - 48) }
+    ensures value_2 { 513 ≤ x → result ≡ x }
 {
-    let more = 10 * leaf? + u16::from(digit - b'0');
-    (more <= 512).then_some(more)
+    if 513 <= x {
+        return x;
+    }
+    10 * x + u16::from(digit - b'0')
+}
+
+// The leaf number that a number says, if it is at most 512.
+fn leaf_said(x: u16) -> Option<u16>
+    ensures { result ≡ leaf_of x }
+{
+    (x <= 512).then_some(x)
 }
 
 impl<'a> Text<'a> {
@@ -51,22 +61,26 @@ impl<'a> Text<'a> {
         requires { Place self.now.bytes.now from }
         ensures { DigitsEnd self.now.bytes.now from result.end result.leaf }
     {
-        let mut leaf = Some(0);
+        let mut x = 0;
         for end in from..self.bytes.len() {
             let digit = self.bytes[end];
             if !digit.is_ascii_digit() {
-                return DigitsRead { end, leaf };
+                return DigitsRead {
+                    end,
+                    leaf: leaf_said(x),
+                };
             }
-            leaf = with_digit(leaf, digit);
+            x = with_digit(x, digit);
         }
         DigitsRead {
             end: self.bytes.len(),
-            leaf,
+            leaf: leaf_said(x),
         }
     }
 
     // Past the length that may stand at a place, which is not the first: there, if none stands there; none where a
     // colon is followed by no length.
+    #[inline]
     pub fn length_end(&self, at: usize) -> Option<usize>
         requires { (1 ≤ at) × Place self.now.bytes.now at }
         ensures { LengthEnds (length_in (drop at self.now.bytes.now)) self.now.bytes.now at result }
