@@ -30,13 +30,6 @@ fn with_digit(x: u16, digit: u8) -> u16
     10 * x + u16::from(digit - b'0')
 }
 
-// The leaf number that a number says, if it is at most 512.
-fn leaf_said(x: u16) -> Option<u16>
-    ensures { result ≡ leaf_of x }
-{
-    (x <= 512).then_some(x)
-}
-
 impl<'a> Text<'a> {
     // The byte at a place, if one stands there.
     pub fn byte_at(&self, at: usize) -> Option<u8>
@@ -62,32 +55,28 @@ impl<'a> Text<'a> {
         ensures { DigitsEnd self.now.bytes.now from result.end result.leaf }
     {
         let mut x = 0;
-        for end in from..self.bytes.len() {
-            let digit = self.bytes[end];
-            if !digit.is_ascii_digit() {
-                return DigitsRead {
-                    end,
-                    leaf: leaf_said(x),
-                };
-            }
-            x = with_digit(x, digit);
+        let mut end = from;
+        while end < self.bytes.len() && self.bytes[end].is_ascii_digit() {
+            x = with_digit(x, self.bytes[end]);
+            end += 1;
         }
         DigitsRead {
-            end: self.bytes.len(),
-            leaf: leaf_said(x),
+            end,
+            leaf: (x <= 512).then_some(x),
         }
     }
 
     // Past the length that may stand at a place, which is not the first: there, if none stands there; none where a
     // colon is followed by no length.
-    #[inline]
+    #[inline(always)]
     pub fn length_end(&self, at: usize) -> Option<usize>
         requires { (1 ≤ at) × Place self.now.bytes.now at }
         ensures { LengthEnds (length_in (drop at self.now.bytes.now)) self.now.bytes.now at result }
     {
-        let Some(from) = self.behind(b':', at) else {
+        let Some(b':') = self.byte_at(at) else {
             return Some(at);
         };
+        let from = at + 1;
         let whole = self.digits_from(from).end;
         let Some(point) = self.behind(b'.', whole) else {
             return (from < whole).then_some(whole);
