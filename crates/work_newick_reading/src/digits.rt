@@ -1,6 +1,6 @@
 // Bytes of a text, and the digits in it.
 ghost use Rattle.std.specs.Prelude.{◌≡◌, ◌+◌, ◌*◌, ◌-◌, ◌≤◌, drop, slice_get};
-ghost use Rattle.newick.specs.Reading.{length_in};
+ghost use Rattle.newick.specs.Reading.{length_behind, length_in};
 ghost use Rattle.work_newick_reading.specs.Text.{Place};
 ghost use Rattle.work_newick_reading.specs.Reads.{Behind, DigitsEnd, LengthEnds, leaf_of};
 
@@ -76,7 +76,16 @@ impl<'a> Text<'a> {
         let Some(b':') = self.byte_at(at) else {
             return Some(at);
         };
-        let from = at + 1;
+        self.length_behind(at + 1)
+    }
+
+    // Past the length whose colon was read; none where none follows it. A call of its own: in the readers its values
+    // would take more of the stack for each open group.
+    #[inline(never)]
+    fn length_behind(&self, from: usize) -> Option<usize>
+        requires { Place self.now.bytes.now from }
+        ensures { LengthEnds (length_behind (drop from self.now.bytes.now)) self.now.bytes.now from result }
+    {
         let whole = self.digits_from(from).end;
         let Some(point) = self.behind(b'.', whole) else {
             return (from < whole).then_some(whole);
