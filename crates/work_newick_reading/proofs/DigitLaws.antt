@@ -1,5 +1,5 @@
 -- Digits read one after the other, and the length that may stand behind a subtree.
-use Rattle.std.specs.Prelude.{Option, Some, None, IfSome, unwrap_or}
+use Rattle.std.specs.Prelude.{Option, Some, None, unwrap_or}
 use Rattle.std.specs.Bool.{then_some}
 use Rattle.std.specs.Char.{is_ascii_digit}
 use Prim.Native.Nat.{ℕ, ◌+◌, ◌*◌, ◌-◌, ◌≤◌, ◌<◌}
@@ -60,34 +60,14 @@ pub leaf-large : (v : ℕ) → 513 ≤ v → leaf_of v ≡ None
 unfolding leaf_of
 leaf-large v h = rw (lt-leb v 512 h) refl
 
--- one that was said is at most 512, and is itself
-pub leaf-some : (v x : ℕ) → Some x ≡ leaf_of v → (x ≤ 512) × (x ≡ v)
-leaf-some v x e = go (dec_le v 512)
-  where
-    go : Dec (v ≤ 512) → (x ≤ 512) × (x ≡ v)
-    go (yes h) = let same : x ≡ v = (let f = e ∙ leaf-small v h in cc) in (omega arith, same)
-    go (no h) = let f = e ∙ leaf-large v (omega arith) in cc
-
--- where none is said, none is said of more digits
-pub leaf-none : (v : ℕ) → None ≡ leaf_of v → 513 ≤ v
-leaf-none v e = go (dec_le v 512)
-  where
-    go : Dec (v ≤ 512) → 513 ≤ v
-    go (yes h) = let f = e ∙ leaf-small v h in cc
-    go (no h) = omega arith
-
--- where one is said, one digit more is said if that is at most 512
-pub leaf-said : (w : ℕ) → then_some (leb w 512) w ≡ leaf_of w
+-- a number is said as it is, if it is at most 512
+pub leaf-said : (x : ℕ) → then_some (leb x 512) x ≡ leaf_of x
 unfolding leaf_of
-leaf-said w = go (leb w 512)
+leaf-said x = go (leb x 512)
   where
-    go : (b : Bool) → then_some b w ≡ cond b (Some w) None
+    go : (b : Bool) → then_some b x ≡ cond b (Some x) None
     go true = refl
     go false = refl
-
-pub leaf-fits : (v : ℕ) (leaf : Option ℕ) → leaf ≡ leaf_of v → IfSome leaf (λ x. x ≤ 512)
-leaf-fits v None e = tt
-leaf-fits v (Some x) e = (leaf-some v x e).0
 
 -- as it is noted
 pub leaf-noted : (ds : List ℕ) (leaf : Option ℕ) → leaf ≡ leaf_of (value ds) → unwrap_or leaf 0 ≡ noted ds
@@ -100,20 +80,33 @@ leaf-noted ds leaf e = rw e (go (leb (value ds) 512))
 
 -- ---- the loop
 
--- at place `at`, where the digits before it say so_far
-pub record DigitsTo (text : List ℕ) (from : ℕ) (leaf : Option ℕ) (at : ℕ) : Type 0 where
+-- x stands for the number v: it is v, or both are above 512
+pub record Stands (x v : ℕ) : Type 0 where
+  pub small : v ≤ 512 → x ≡ v
+  pub large : 513 ≤ v → 513 ≤ x
+
+-- at place `at`, where the digits before it say so_far, for which x stands
+pub record DigitsTo (text : List ℕ) (from x at : ℕ) : Type 0 where
   pub so_far : ℕ
-  pub stands : leaf ≡ leaf_of so_far
+  pub stands : Stands x so_far
   pub value-left : value_from so_far (digits (drop at text)) ≡ value (digits (drop from text))
   pub past-left : past_digits (drop at text) ≡ past_digits (drop from text)
   pub ahead : from ≤ at
   pub within : at ≤ length text
 
+-- what stands for a number says the same leaf
+stands-same : (x v : ℕ) → Stands x v → leaf_of x ≡ leaf_of v
+stands-same x v st = go (dec_le v 512)
+  where
+    go : Dec (v ≤ 512) → leaf_of x ≡ leaf_of v
+    go (yes q) = ap leaf_of (st.small q)
+    go (no q) = leaf-large x (st.large (omega arith)) ∙ sym (leaf-large v (omega arith))
+
 module _ (text : List ℕ) (from : ℕ) where
-  pub digits_start : from ≤ length text → DigitsTo text from (Some 0) from
+  pub digits_start : from ≤ length text → DigitsTo text from 0 from
   digits_start h = record {
     so_far = 0;
-    stands = sym (leaf-small 0 (omega arith));
+    stands = record { small = λ p. refl; large = λ p. omega arith };
     value-left = refl;
     past-left = refl;
     ahead = omega arith;
@@ -121,44 +114,52 @@ module _ (text : List ℕ) (from : ℕ) where
   }
 
   -- one digit more
-  pub digits_step : (leaf r : Option ℕ) (at : ℕ) → DigitsTo text from leaf at → at < length text → is_digit (get_or text at 0) ≡ true →
-      ((v : ℕ) → leaf ≡ leaf_of v → r ≡ leaf_of (10 * v + (get_or text at 0 - 48))) → DigitsTo text from r (at + 1)
+  pub digits_step : (x at r : ℕ) → DigitsTo text from x at → at < length text → is_digit (get_or text at 0) ≡ true →
+      (x ≤ 512 → r ≡ 10 * x + (get_or text at 0 - 48)) → (513 ≤ x → r ≡ x) → DigitsTo text from r (at + 1)
   unfolding value_from
-  digits_step leaf r at d h is step =
+  digits_step x at r d h is small large =
       let b = get_or text at 0 in
       let v = d.so_far in
       let there = text_at text at h in
       let more = digits_more b (drop (at + 1) text) is in
+      let st = d.stands in
       record {
         so_far = 10 * v + (b - 48);
-        stands = step v d.stands;
+        stands = record {
+          small = λ p. let e = st.small (omega arith) in small (omega arith) ∙ ap (λ z. 10 * z + (b - 48)) e;
+          large = λ p. go p (dec_le v 512);
+        };
         value-left = ap (value_from v) (sym (ap digits there ∙ more.0)) ∙ d.value-left;
         past-left = sym (ap past_digits there ∙ more.1) ∙ d.past-left;
         ahead = let a = d.ahead in omega arith;
         within = omega arith;
       }
+    where
+      go : 513 ≤ 10 * d.so_far + (get_or text at 0 - 48) → Dec (d.so_far ≤ 512) → 513 ≤ r
+      go p (yes q) = let e = d.stands.small q in let f = small (omega arith) in omega arith
+      go p (no q) = let e = d.stands.large (omega arith) in let f = large e in omega arith
 
   -- the digits have ended
-  digits-end : (leaf : Option ℕ) (at : ℕ) → DigitsTo text from leaf at →
-      digits (drop at text) ≡ [] → past_digits (drop at text) ≡ drop at text → DigitsEnd text from at leaf
+  digits-end : (x at : ℕ) → DigitsTo text from x at →
+      digits (drop at text) ≡ [] → past_digits (drop at text) ≡ drop at text → DigitsEnd text from at (leaf_of x)
   unfolding value_from
-  digits-end leaf at d none past =
+  digits-end x at d none past =
       let v = d.so_far in
       let e : v ≡ value (digits (drop from text)) = sym (ap (value_from v) none) ∙ d.value-left in
       record {
         ends = record { ahead = d.ahead; within = d.within; left = sym past ∙ d.past-left };
-        says = d.stands ∙ ap leaf_of e;
+        says = stands-same x v d.stands ∙ ap leaf_of e;
       }
 
-  pub digits-stop : (leaf : Option ℕ) (at : ℕ) → DigitsTo text from leaf at → at < length text → is_digit (get_or text at 0) ≡ false →
-      DigitsEnd text from at leaf
-  digits-stop leaf at d h is =
+  pub digits-stop : (x at : ℕ) → DigitsTo text from x at → at < length text → is_digit (get_or text at 0) ≡ false →
+      DigitsEnd text from at (leaf_of x)
+  digits-stop x at d h is =
       let there = text_at text at h in
       let none = digits-none (get_or text at 0) (drop (at + 1) text) is in
-      digits-end leaf at d (ap digits there ∙ none.0) (ap past_digits there ∙ none.1 ∙ sym there)
+      digits-end x at d (ap digits there ∙ none.0) (ap past_digits there ∙ none.1 ∙ sym there)
 
-  pub digits-ended : (leaf : Option ℕ) (at : ℕ) → DigitsTo text from leaf at → length text ≤ at → DigitsEnd text from at leaf
+  pub digits-ended : (x at : ℕ) → DigitsTo text from x at → length text ≤ at → DigitsEnd text from at (leaf_of x)
   unfolding digits past_digits
-  digits-ended leaf at d h =
+  digits-ended x at d h =
       let there = text-ended text at h in
-      digits-end leaf at d (ap digits there) (ap past_digits there ∙ sym there)
+      digits-end x at d (ap digits there) (ap past_digits there ∙ sym there)

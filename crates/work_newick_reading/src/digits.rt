@@ -1,6 +1,6 @@
 // Bytes of a text, and the digits in it.
-ghost use Rattle.std.specs.Prelude.{◌≡◌, ℕ, ◌+◌, ◌*◌, ◌-◌, ◌≤◌, IfSome, drop, slice_get};
-ghost use Rattle.newick.specs.Reading.{length_in};
+ghost use Rattle.std.specs.Prelude.{◌≡◌, ◌+◌, ◌*◌, ◌-◌, ◌≤◌, drop, slice_get};
+ghost use Rattle.newick.specs.Reading.{length_behind, length_in};
 ghost use Rattle.work_newick_reading.specs.Text.{Place};
 ghost use Rattle.work_newick_reading.specs.Reads.{Behind, DigitsEnd, LengthEnds, leaf_of};
 
@@ -18,13 +18,16 @@ pub struct DigitsRead {
     pub leaf: Option<u16>,
 }
 
-// A leaf number with one digit more, if it is at most 512.
-fn with_digit(leaf: Option<u16>, digit: u8) -> Option<u16>
-    requires { IfSome leaf (λ x. x ≤ 512) × (48 ≤ digit) × (digit ≤ 57) }
-    ensures { (v : ℕ) → leaf ≡ leaf_of v → result ≡ leaf_of (10 * v + (digit - 48)) }
+// A number with one digit more; one that is above 512 stays so, whatever follows.
+fn with_digit(x: u16, digit: u8) -> u16
+    requires { (48 ≤ digit) × (digit ≤ 57) }
+    ensures value { x ≤ 512 → result ≡ 10 * x + (digit - 48) }
+    ensures value_2 { 513 ≤ x → result ≡ x }
 {
-    let more = 10 * leaf? + u16::from(digit - b'0');
-    (more <= 512).then_some(more)
+    if 513 <= x {
+        return x;
+    }
+    10 * x + u16::from(digit - b'0')
 }
 
 impl<'a> Text<'a> {
@@ -51,29 +54,38 @@ impl<'a> Text<'a> {
         requires { Place self.now.bytes.now from }
         ensures { DigitsEnd self.now.bytes.now from result.end result.leaf }
     {
-        let mut leaf = Some(0);
-        for end in from..self.bytes.len() {
-            let digit = self.bytes[end];
-            if !digit.is_ascii_digit() {
-                return DigitsRead { end, leaf };
-            }
-            leaf = with_digit(leaf, digit);
+        let mut x = 0;
+        let mut end = from;
+        while end < self.bytes.len() && self.bytes[end].is_ascii_digit() {
+            x = with_digit(x, self.bytes[end]);
+            end += 1;
         }
         DigitsRead {
-            end: self.bytes.len(),
-            leaf,
+            end,
+            leaf: (x <= 512).then_some(x),
         }
     }
 
     // Past the length that may stand at a place, which is not the first: there, if none stands there; none where a
     // colon is followed by no length.
+    #[inline(always)]
     pub fn length_end(&self, at: usize) -> Option<usize>
         requires { (1 ≤ at) × Place self.now.bytes.now at }
         ensures { LengthEnds (length_in (drop at self.now.bytes.now)) self.now.bytes.now at result }
     {
-        let Some(from) = self.behind(b':', at) else {
+        let Some(b':') = self.byte_at(at) else {
             return Some(at);
         };
+        self.length_behind(at + 1)
+    }
+
+    // Past the length whose colon was read; none where none follows it. A call of its own: in the readers its values
+    // would take more of the stack for each open group.
+    #[inline(never)]
+    fn length_behind(&self, from: usize) -> Option<usize>
+        requires { Place self.now.bytes.now from }
+        ensures { LengthEnds (length_behind (drop from self.now.bytes.now)) self.now.bytes.now from result }
+    {
         let whole = self.digits_from(from).end;
         let Some(point) = self.behind(b'.', whole) else {
             return (from < whole).then_some(whole);

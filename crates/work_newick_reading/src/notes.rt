@@ -82,12 +82,13 @@ impl Notes {
         ensures { self.new ≡ closed first self.old }
     {
         self.open -= 1;
-        if self.closed < MOST_ROWS {
-            let at = 2 * usize::from(self.closed);
+        let closed = self.closed;
+        if closed < MOST_ROWS {
+            let at = 2 * usize::from(closed);
             self.rows[at] = first;
             self.rows[at + 1] = self.last;
-            self.last = FIRST_GROUP + self.closed;
-            self.closed += 1;
+            self.last = FIRST_GROUP + closed;
+            self.closed = closed + 1;
         } else {
             self.closed = TOO_MANY;
         }

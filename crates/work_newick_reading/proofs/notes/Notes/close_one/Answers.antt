@@ -2,13 +2,13 @@
 use Rattle.work_newick_reading.proofs.NotesView.{closed-many, closed-noted}
 use Rattle.work_newick_reading.proofs.notes.Notes.close_one.Goals as goal
 
-pub returns-then-self-lt-MOST_ROWS : goal.returns-then-self-lt-MOST_ROWS
-returns-then-self-lt-MOST_ROWS c =
+pub returns-then-closed-lt-MOST_ROWS : goal.returns-then-closed-lt-MOST_ROWS
+returns-then-closed-lt-MOST_ROWS c =
     let s = c.self.inside in
     rw (← c.self.view_is, c.from-at.ensures)
-    (closed-noted s.rows s.closed s.last s.open c.args.first c.self.told c.if-self-lt-MOST_ROWS.true)
+    (closed-noted s.rows s.closed s.last s.open c.args.first c.self.told c.if-closed-lt-MOST_ROWS.true)
 
-pub returns-else-self-lt-MOST_ROWS : goal.returns-else-self-lt-MOST_ROWS
-returns-else-self-lt-MOST_ROWS c =
+pub returns-else-closed-lt-MOST_ROWS : goal.returns-else-closed-lt-MOST_ROWS
+returns-else-closed-lt-MOST_ROWS c =
     let s = c.self.inside in
-    rw (← c.self.view_is) (closed-many s.rows s.closed s.last s.open c.args.first c.self.told c.if-self-lt-MOST_ROWS.false)
+    rw (← c.self.view_is) (closed-many s.rows s.closed s.last s.open c.args.first c.self.told c.if-closed-lt-MOST_ROWS.false)
