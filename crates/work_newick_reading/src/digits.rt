@@ -50,6 +50,7 @@ impl<'a> Text<'a> {
     }
 
     // The digits from a place on.
+    #[inline(always)]
     pub fn digits_from(&self, from: usize) -> DigitsRead
         requires { Place self.now.bytes.now from }
         ensures { DigitsEnd self.now.bytes.now from result.end result.leaf }
@@ -79,9 +80,9 @@ impl<'a> Text<'a> {
         self.length_behind(at + 1)
     }
 
-    // Past the length whose colon was read; none where none follows it. A call of its own: in the readers its values
-    // would take more of the stack for each open group.
-    #[inline(never)]
+    // Past the length whose colon was read; none where none follows it. It and the digits stand inline in the readers:
+    // a call there would take more of the stack.
+    #[inline(always)]
     fn length_behind(&self, from: usize) -> Option<usize>
         requires { Place self.now.bytes.now from }
         ensures { LengthEnds (length_behind (drop from self.now.bytes.now)) self.now.bytes.now from result }

@@ -16,7 +16,7 @@ pub returns : goal.returns
 returns c =
     rw (c.then_some.ensures, leaf-said c.loop-end.x)
     (elim c.loop-end-test.branch [
-      then-loop-end-test+else-is_ascii_digit w ↦
+      | then-loop-end-test+else-is_ascii_digit w ↦
           digits-stop _ _ _ _ c.loop-end.invariant w.loop-end-test.true
           (sym (w.is_ascii_digit.ensures.value ∙ digit-same _) ∙ w.if-is_ascii_digit.false)
       | else-loop-end-test w ↦ digits-ended _ _ _ _ c.loop-end.invariant w.loop-end-test.false
