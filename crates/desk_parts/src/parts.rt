@@ -23,14 +23,15 @@ fn heading(stdout: Stdout, answered: TangleUnpack) -> io::Result<()> {
 // unpack RECORD LEFT RIGHT LINKS LAYOUT LAYOUT -> NUMBER HOLD N LEFT RIGHT LINKS LAYOUT LAYOUT. The left list goes into
 // xs: a program's stack has room for few lists of its own.
 pub fn unpack(stdout: Stdout, line: &[u8], s: &[u8], xs: &mut [u16]) -> Option<io::Result<()>> {
-    let a = list(word(line, 2), xs)?;
+    // The buffers come first: behind a word that is read the compiler zeroes them twice.
     let mut right = room::for_list();
-    let b = list(word(line, 3), &mut right)?;
     let mut links = room::for_list();
-    let c = list(word(line, 4), &mut links)?;
     let mut leftlay = room::for_bytes();
-    let d = bytes(word(line, 5), &mut leftlay)?;
     let mut rightlay = room::for_bytes();
+    let a = list(word(line, 2), xs)?;
+    let b = list(word(line, 3), &mut right)?;
+    let c = list(word(line, 4), &mut links)?;
+    let d = bytes(word(line, 5), &mut leftlay)?;
     let e = bytes(word(line, 6), &mut rightlay)?;
     Some(unpack_into(
         stdout,

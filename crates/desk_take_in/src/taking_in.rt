@@ -21,9 +21,10 @@ fn taken(stdout: Stdout, s: &[u8], side: u16, xs: &[u16], out: &mut [u8]) -> io:
 
 // take_in RECORD SIDE ORDER LAYOUT -> NUMBER COUNT LEAST LAYOUT; none for a line that is no call.
 pub fn take_in(stdout: Stdout, line: &[u8], s: &[u8], xs: &mut [u16]) -> Option<io::Result<()>> {
+    // The buffer comes first: behind a word that is read the compiler zeroes it twice.
+    let mut out = room::for_bytes();
     let side = number16(word(line, 2))?;
     let n = list(word(line, 3), xs)?;
-    let mut out = room::for_bytes();
     let m = bytes(word(line, 4), &mut out)?;
     Some(taken(stdout, s, side, &xs[..n], &mut out[..m]))
 }
