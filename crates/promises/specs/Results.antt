@@ -77,7 +77,8 @@ pub record Results : Type 0 where
   pub hands : (s : List ℕ) (hands : List Hand) → FixesResultBoth (told {A = Unit {0}}) (Hands s hands)
   pub pin : (s : List ℕ) (side row : ℕ) (pinned : Bool) → FixesResultBoth (told {A = Unit {0}}) (Pins s side row pinned)
   pub compare : (s : List ℕ) (side : ℕ) (first second : List ℕ) → FixesResult compared (Compares s side first second)
-  pub better_check : (s : List ℕ) (side : ℕ) (first second : List ℕ) → FixesResult (told {A = Unit {0}}) (BetterChecks s side first second)
+  pub better_check : (s : List ℕ) (side : ℕ) (first second : List ℕ) →
+      FixesResult (told {A = Unit {0}}) (BetterChecks s side first second)
   pub take_in : (s : List ℕ) (side : ℕ) (xs out : List ℕ) → FixesResultBoth taken_in (TakesIn s side xs out)
   pub newick_read : (text out : List ℕ) → FixesResultBoth read_as (NewickReads text out)
   pub newick_write : (s : List ℕ) (side : ℕ) (out : List ℕ) → FixesResultBoth written_as (NewickWrites s side out)
