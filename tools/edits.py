@@ -2,12 +2,14 @@
 """The must-fail edits, brought from LANDED's spelling to today's, and the check that each of them applies.
 
     python3 tools/edits.py check      lists each edit an `old:` text of which doesn't stand once in its file
+    python3 tools/edits.py goals LOG  the table of docs/EDITS.md, from what `rt ci` printed: the goal that refuses each edit
     python3 tools/edits.py spell      once, after port.py and tools/spelling.py: respells the texts below
 
 Edits whose text changed in more than spelling were written by hand; docs/PORT.md has them, old and new side by side.
 """
 import glob
 import os
+import re
 import sys
 
 TOP = os.path.dirname(os.path.dirname(os.path.abspath(__file__)))
@@ -101,9 +103,25 @@ def check():
     return bad
 
 
+def goals(log):
+    """Of each edit where the check stops first, a function or a file of lemmas, and the goal there."""
+    print("| Edit | Where | Goal |\n|---|---|---|")
+    for line in open(log):
+        told = re.match(r".*must-fail (\S+)\.edit: refused, as it must be: (.*)", line)
+        if not told:
+            continue
+        why = told.group(2)
+        goal = re.search(r"error: `([^`]+)`", why) or re.search(r"\(`([^`]+)`\)", why)
+        place = re.match(r"(?:note: )?(?:\./)?([^:\s]+)", why).group(1)
+        place = re.sub(r"^proofs/(.+)/(?:Answers|Invariants)\.antt$", lambda m: m.group(1).replace("/", "::"), place)
+        print("| %s | `%s` | `%s` |" % (told.group(1), place, goal.group(1)))
+
+
 if __name__ == "__main__":
     if sys.argv[1:] == ["spell"]:
         spell()
+    elif sys.argv[1:2] == ["goals"] and len(sys.argv) == 3:
+        goals(sys.argv[2])
     elif sys.argv[1:] == ["check"]:
         sys.exit(1 if check() else 0)
     else:
