@@ -6,7 +6,7 @@ ghost use Rattle.desk.specs.Orders.{orders_in};
 
 use desk_words::lists::list as list_in;
 use desk_words::numbers::number16;
-use desk_words::spelling::{answer, list, next_bits, next_list};
+use desk_words::spelling::{answer, integers, next_bits, next_integers};
 use desk_words::words::word;
 use std::io;
 use std::io::Stdout;
@@ -27,7 +27,7 @@ pub fn check(stdout: Stdout, s: &[u8]) -> io::Result<()> {
 fn ordered(stdout: Stdout, s: &[u8], side: u16, xs: &mut [u16]) -> io::Result<()> {
     let answered = TangleRefusal::from(calls_show::order(s, side, xs));
     answer(stdout, answered.refusal, answered.row, &[])?;
-    next_list(stdout, xs)?;
+    next_integers(stdout, xs)?;
     printing::end(stdout)
 }
 
@@ -130,7 +130,7 @@ fn orders<'a>(line: &[u8], xs: &'a mut [u16]) -> Option<(u16, &'a [u16], &'a [u1
 
 // PART
 fn told(stdout: Stdout, part: &[u16]) -> io::Result<()> {
-    list(stdout, part)?;
+    integers(stdout, part)?;
     printing::end(stdout)
 }
 

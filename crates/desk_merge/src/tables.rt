@@ -3,7 +3,7 @@
 use desk_words::lists::{list, table};
 use desk_words::numbers::number16;
 use desk_words::room;
-use desk_words::spelling::{answer, next_list};
+use desk_words::spelling::{answer, next_integers};
 use desk_words::words::word;
 use std::io;
 use std::io::Stdout;
@@ -13,7 +13,7 @@ use tangle::answers::TangleRefusal;
 fn read(stdout: Stdout, n: u16, rows: &[i32], out: &mut [u16]) -> io::Result<()> {
     let answered = TangleRefusal::from(calls_merge::merge_read(n, rows, out));
     answer(stdout, answered.refusal, answered.row, &[])?;
-    next_list(stdout, out)?;
+    next_integers(stdout, out)?;
     printing::end(stdout)
 }
 
@@ -30,7 +30,7 @@ pub fn merge_read(stdout: Stdout, line: &[u8], xs: &mut [u16]) -> Option<io::Res
 fn written(stdout: Stdout, s: &[u8], side: u16, out: &mut [i32]) -> io::Result<()> {
     let answered = TangleRefusal::from(calls_merge::merge_write(s, side, out));
     answer(stdout, answered.refusal, answered.row, &[])?;
-    next_list(stdout, out)?;
+    next_integers(stdout, out)?;
     printing::end(stdout)
 }
 

@@ -4,7 +4,7 @@ use desk_words::bytes::bytes;
 use desk_words::lists::list;
 use desk_words::numbers::number16;
 use desk_words::room;
-use desk_words::spelling::{answer, next_bytes, next_list};
+use desk_words::spelling::{answer, next_bytes, next_integers};
 use desk_words::words::word;
 use std::io;
 use std::io::Stdout;
@@ -14,7 +14,7 @@ use tangle::answers::{TangleNewickRead, TangleNewickWrite};
 fn read(stdout: Stdout, text: &[u8], out: &mut [u16]) -> io::Result<()> {
     let answered = TangleNewickRead::from(calls_newick::newick_read(text, out));
     answer(stdout, answered.refusal, answered.row, &[answered.n])?;
-    next_list(stdout, out)?;
+    next_integers(stdout, out)?;
     printing::end(stdout)
 }
 

@@ -4,7 +4,7 @@ use desk_words::bytes::bytes;
 use desk_words::lists::list;
 use desk_words::numbers::{number8, number16};
 use desk_words::room;
-use desk_words::spelling::{answer, done, next_bytes, next_list};
+use desk_words::spelling::{answer, done, next_bytes, next_integers};
 use desk_words::words::word;
 use std::io;
 use std::io::Stdout;
@@ -57,9 +57,9 @@ fn unpack_into(
         stdout,
         TangleUnpack::from(record_unpacking::unpack(s, left, right, links, leftlay, rightlay)),
     )?;
-    next_list(stdout, left)?;
-    next_list(stdout, right)?;
-    next_list(stdout, links)?;
+    next_integers(stdout, left)?;
+    next_integers(stdout, right)?;
+    next_integers(stdout, links)?;
     next_bytes(stdout, leftlay)?;
     next_bytes(stdout, rightlay)?;
     printing::end(stdout)

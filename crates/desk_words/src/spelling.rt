@@ -2,6 +2,7 @@
 ghost use Rattle.std.specs.Prelude.{◌≡◌, ◌+◌, ◌*◌, ◌≤◌, length, take, drop};
 ghost use Rattle.desk_words.specs.Bytes.{hex_digit, spelling};
 
+use std::fmt::Display;
 use std::io;
 use std::io::Stdout;
 
@@ -58,12 +59,12 @@ pub fn next_bytes(stdout: Stdout, s: &[u8]) -> io::Result<()> {
 
 // What a call answers in numbers: its refusal's, and the row if it isn't 0; then the others.
 pub fn answer(stdout: Stdout, refusal: u32, row: u32, others: &[u32]) -> io::Result<()> {
-    printing::number(stdout, refusal)?;
+    printing::integer(stdout, refusal)?;
     if row != 0 {
-        printing::next(stdout, row)?;
+        printing::next_integer(stdout, row)?;
     }
     for x in others {
-        printing::next(stdout, *x)?;
+        printing::next_integer(stdout, *x)?;
     }
     Ok(())
 }
@@ -76,7 +77,26 @@ pub fn done(stdout: Stdout, refusal: u32, row: u32, s: &[u8]) -> io::Result<()> 
 }
 
 // Numbers with commas between, or a dash for none.
-pub fn list<T: Copy + Into<i64>>(stdout: Stdout, xs: &[T]) -> io::Result<()> {
+pub fn integers<T: Copy + Into<i64>>(stdout: Stdout, xs: &[T]) -> io::Result<()> {
+    let Some((first, rest)) = xs.split_first() else {
+        return printing::byte(stdout, b'-');
+    };
+    printing::integer(stdout, *first)?;
+    for x in rest {
+        printing::byte(stdout, b',')?;
+        printing::integer(stdout, *x)?;
+    }
+    Ok(())
+}
+
+// A space and such a list.
+pub fn next_integers<T: Copy + Into<i64>>(stdout: Stdout, xs: &[T]) -> io::Result<()> {
+    printing::byte(stdout, b' ')?;
+    integers(stdout, xs)
+}
+
+// The same of numbers of any size, or of any other values that std has a text for. The desk writes none by it.
+pub fn list<T: Copy + Display>(stdout: Stdout, xs: &[T]) -> io::Result<()> {
     let Some((first, rest)) = xs.split_first() else {
         return printing::byte(stdout, b'-');
     };
@@ -89,7 +109,7 @@ pub fn list<T: Copy + Into<i64>>(stdout: Stdout, xs: &[T]) -> io::Result<()> {
 }
 
 // A space and such a list.
-pub fn next_list<T: Copy + Into<i64>>(stdout: Stdout, xs: &[T]) -> io::Result<()> {
+pub fn next_list<T: Copy + Display>(stdout: Stdout, xs: &[T]) -> io::Result<()> {
     printing::byte(stdout, b' ')?;
     list(stdout, xs)
 }

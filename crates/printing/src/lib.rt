@@ -1,9 +1,11 @@
-// Text on standard output, written at once, for the desk. Numbers are the text that `work_text` puts, which is proved.
-// Each function answers whether what it was to write could be written.
+// Text on standard output, written at once, for the desk. Its numbers, `integer`, are the text that `work_text` puts,
+// which is proved; what `number` writes of any value is std's text of it. Each function answers whether what it was to
+// write could be written.
 #![tactic(auto)]
 
 ghost use Rattle.std.specs.Prelude.{◌≡◌, nat_abs};
 
+use std::fmt::Display;
 use std::io;
 use std::io::{Stdout, Write};
 
@@ -32,7 +34,7 @@ fn size(x: i64) -> u64
 }
 
 // A number in decimal digits, behind a dash where it is below zero.
-pub fn number(stdout: Stdout, x: impl Into<i64> + Drop) -> io::Result<()> {
+pub fn integer(stdout: Stdout, x: impl Into<i64> + Drop) -> io::Result<()> {
     let wide = x.into();
     if wide < 0 {
         byte(stdout, b'-')?;
@@ -40,10 +42,20 @@ pub fn number(stdout: Stdout, x: impl Into<i64> + Drop) -> io::Result<()> {
     wide_number(stdout, size(wide))
 }
 
-// A space, and a number.
-pub fn next(stdout: Stdout, x: impl Into<i64> + Drop) -> io::Result<()> {
+// A space, and such a number.
+pub fn next_integer(stdout: Stdout, x: impl Into<i64> + Drop) -> io::Result<()> {
     byte(stdout, b' ')?;
-    number(stdout, x)
+    integer(stdout, x)
+}
+
+// A number of any size, or any other value that std has a text for. The desk writes none by it.
+pub fn number(stdout: Stdout, x: impl Display + Drop) -> io::Result<()> {
+    write!(&stdout, "{x}")
+}
+
+// A space, and such a value.
+pub fn next(stdout: Stdout, x: impl Display + Drop) -> io::Result<()> {
+    write!(&stdout, " {x}")
 }
 
 // A line feed.
