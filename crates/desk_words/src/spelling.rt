@@ -95,7 +95,8 @@ pub fn next_integers<T: Copy + Into<i64>>(stdout: Stdout, xs: &[T]) -> io::Resul
     integers(stdout, xs)
 }
 
-// The same of numbers of any size, or of any other values that std has a text for. The desk writes none by it.
+// The same of numbers of any size, or of any other values that std has a text for. The desk writes none by it. That the
+// loop stands once, over a closure that writes an entry, was tried: it makes the desk larger.
 pub fn list<T: Copy + Display>(stdout: Stdout, xs: &[T]) -> io::Result<()> {
     let Some((first, rest)) = xs.split_first() else {
         return printing::byte(stdout, b'-');
